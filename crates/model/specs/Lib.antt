@@ -1,0 +1,14 @@
+pub mod Tables
+pub mod Sets
+pub mod Setup
+pub mod State
+pub mod Priority
+pub mod Ask
+pub mod Leave
+pub mod Arbiter
+pub mod Site
+pub mod Deliver
+pub mod Shape
+pub mod Event
+pub mod Run
+pub mod Printed

@@ -1,0 +1,38 @@
+-- Document 01, "The player": "Each event prints its place from 1, its code (0 accepted), the site inside (0 none), the count waiting and
+-- the count under way."
+use Prim.Native.Nat.{ℕ, zero, suc, _+_}
+use mathlib.Core.Bool.{cond}
+use mathlib.Core.List.{List, [], _∷_}
+use lib.Dec.{eqb}
+use Rattle.rig.specs.declared.Event.{Event}
+use Rattle.model.specs.State.{Tables, sizeOf, modeOf, isInside}
+use Rattle.model.specs.Event.{Stored, Answer, event}
+use Rattle.model.specs.Run.{waitingCount}
+
+pub record Line : Type 0 where
+  pub step : ℕ
+  pub code : ℕ
+  pub inside : ℕ
+  pub waiting : ℕ
+  pub flying : ℕ
+
+-- the lowest of the sites 1 to n that is inside, 0 none
+unfoldable pub insideUpTo : Tables → ℕ → ℕ
+insideUpTo t zero = 0
+insideUpTo t (suc i) =
+    let k = insideUpTo t i in
+    cond (eqb k 0) (cond (isInside (modeOf t (suc i))) (suc i) 0) k
+
+unfoldable pub lineOf : ℕ → Answer → Line
+lineOf place a = record {
+  step = place;
+  code = a .code;
+  inside = insideUpTo (a .next .tables) (sizeOf (a .next .tables));
+  waiting = waitingCount (a .next .tables);
+  flying = a .next .count;
+}
+
+-- the lines of a run, the first at a place
+unfoldable pub printed : ℕ → Stored → List Event → List Line
+printed place s [] = []
+printed place s (e ∷ es) = let a = event s e in lineOf place a ∷ printed (place + 1) (a .next) es

@@ -1,0 +1,73 @@
+-- A run of events, and demand 3 for it.
+use Prim.Native.Nat.{ℕ, zero, suc, _+_, _≤_}
+use mathlib.Core.Path.{_≡_}
+use mathlib.Core.Bool.{Bool, not, _&&_, _||_, cond}
+use mathlib.Core.List.{List, [], _∷_}
+use lib.Dec.{eqb}
+use lib.ListN.{length}
+use Rattle.rig.specs.declared.Message.{Message}
+use Rattle.rig.specs.declared.Event.{Event}
+use Rattle.rig.specs.Limits.{messageLimit}
+use Rattle.rig.specs.Messages.{REPLY, RELEASE, YIELD}
+use Rattle.model.specs.Tables.{any, count}
+use Rattle.model.specs.Setup.{setupCode}
+use Rattle.model.specs.State.{Tables, sizeOf, modeOf, isInside, waits, heldOf, freshTables}
+use Rattle.model.specs.Arbiter.{holderOf}
+use Rattle.model.specs.Event.{Stored, underWay, event}
+
+-- "The run starts from the fresh state of sets that setup passes ... with nothing under way": whatever the lent list holds
+unfoldable pub fresh : ℕ → List ℕ → List Message → Stored
+fresh n sets list = record { tables = freshTables n sets; list = list; count = 0 }
+
+-- "each later one the state and the list under way that the one before it left; a refused one hands on what it got"
+unfoldable pub run : Stored → List Event → Stored
+run s [] = s
+run s (e ∷ es) = run (event s e .next) es
+
+-- how many messages pass
+unfoldable pub tally : (Message → Bool) → List Message → ℕ
+tally p [] = 0
+tally p (m ∷ ms) = cond (p m) (suc (tally p ms)) (tally p ms)
+
+-- "Places of arbiter j's permission, counted together: free, if j has no holder;"
+unfoldable pub freeAt : Tables → ℕ → ℕ
+freeAt t j = cond (eqb (holderOf t j) 0) 1 0
+
+-- "travelling out, each reply about j under way;"
+unfoldable pub isOut : ℕ → Message → Bool
+isOut j m = eqb (m .kind) REPLY && eqb (m .about) j
+
+-- "held, each site with a number held for j;"
+unfoldable pub heldAt : Tables → ℕ → ℕ
+heldAt t j = count (λ k. not (eqb (heldOf t k j) 0)) (sizeOf t)
+
+-- "travelling back, each yield to j and each release to j with about 0 under way. A release naming an heir carries none."
+unfoldable pub isBack : ℕ → Message → Bool
+isBack j m = eqb (m .to) j && (eqb (m .kind) YIELD || (eqb (m .kind) RELEASE && eqb (m .about) 0))
+
+unfoldable pub places : Stored → ℕ → ℕ
+places s j = freeAt (s .tables) j + tally (isOut j) (underWay s) + heldAt (s .tables) j + tally (isBack j) (underWay s)
+
+-- how many sites are inside, and how many wait
+unfoldable pub insideCount : Tables → ℕ
+insideCount t = count (λ k. isInside (modeOf t k)) (sizeOf t)
+
+unfoldable pub waitingCount : Tables → ℕ
+waitingCount t = count (waits t) (sizeOf t)
+
+-- "A rig is stuck if no message is under way, no site is inside and a site is waiting."
+unfoldable pub stuck : Stored → Bool
+stuck s = eqb (s .count) 0 && (eqb (insideCount (s .tables)) 0 && not (eqb (waitingCount (s .tables)) 0))
+
+-- Demand 3 of a state: "at most one site inside, each arbiter's permission in exactly one place, and no stuck rig"
+pub record Sound (s : Stored) : Type 0 where
+  pub exclusion : insideCount (s .tables) ≤ 1
+  pub onePlace : (j : ℕ) → 1 ≤ j → j ≤ sizeOf (s .tables) → places s j ≡ 1
+  pub notStuck : stuck s ≡ Bool.false
+
+-- Demand 3: "For EVERY family that setup passes and EVERY list of asks, leaves and deliveries, refused ones included", "A run without
+-- events counts too."
+unfoldable pub Demand3 : Type 0
+Demand3 =
+    (n : ℕ) (sets : List ℕ) (list : List Message) (es : List Event) →
+    setupCode n sets ≡ 0 → length list ≡ messageLimit → Sound (run (fresh n sets list) es)

@@ -1,0 +1,3 @@
+-- The limits of document 01, and its messages.
+pub mod Limits
+pub mod Messages

@@ -1,0 +1,27 @@
+-- Document 01, "Sizes of a rig".
+use Prim.Native.Nat.{ℕ}
+use mathlib.Core.List.{List}
+use lib.ListN.{replicate}
+
+-- "Sites 1 to N, N from 1 to 31."
+abbrev pub siteLimit : ℕ
+siteLimit = 31
+
+-- "Messages under way: at most 1,024."
+abbrev pub messageLimit : ℕ
+messageLimit = 1_024
+
+-- "Accepted events in a run: at most 1,000,000."
+abbrev pub eventLimit : ℕ
+eventLimit = 1_000_000
+
+-- "Clocks, sequence and grant numbers: 0 to 2,000,000."
+abbrev pub numberLimit : ℕ
+numberLimit = 2_000_000
+
+-- "Fresh: all but N and the sets zero": a table of a row for each site or arbiter.
+abbrev pub blankRow : List ℕ
+blankRow = replicate siteLimit 0
+
+abbrev pub blankTable : List (List ℕ)
+blankTable = replicate siteLimit blankRow

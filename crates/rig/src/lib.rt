@@ -1,0 +1,120 @@
+// The plain data of a rig: sites, arbiters, messages and events, with every limit and kind code of document 01.
+ghost use mathlib.Core.Path.{_≡_};
+ghost use Rattle.rig.specs.Messages.{request, reply, release, inquire, fail, yield, transfer};
+ghost use Rattle.rig.specs.Limits.{blankTable};
+
+// What a site is doing. Only a waiting site has a sequence number and a failed mark.
+pub enum Mode {
+    Rest,
+    Waiting { seq: u64, failed: bool },
+    Inside,
+}
+
+pub struct Site {
+    pub mode: Mode,
+    pub clock: u64,
+}
+
+// An arbiter: its grant number, and its holder (0 none) with the holder's sequence number.
+pub struct Arbiter {
+    pub grant: u64,
+    pub holder: u64,
+    pub seq: u64,
+}
+
+// A rig, but for its four tables: sites 1 to `size`, each with its request set, and the accepted events.
+// Site n stands at index n - 1 of each array.
+pub struct Rig {
+    pub size: u64,
+    pub sets: [u64; Rig::SITES],
+    pub sites: [Site; Rig::SITES],
+    pub arbiters: [Arbiter; Rig::SITES],
+    pub accepted: u64,
+}
+
+// A table of numbers. `held`, `heir` and `inquired` have a row for each site and a column for each arbiter;
+// `queued` has a row for each arbiter and a column for each site.
+pub type Table = [[u64; Rig::SITES]; Rig::SITES];
+
+pub struct Message {
+    pub kind: u64,
+    pub from: u64,
+    pub to: u64,
+    pub about: u64,
+    pub number: u64,
+}
+
+// What may happen: a site asks, a site leaves, the first message from one site to another is delivered.
+pub enum Event {
+    Ask(u64),
+    Leave(u64),
+    Deliver(u64, u64),
+}
+
+impl Rig {
+    pub const SITES: usize = 31;
+    pub const MESSAGES: usize = 1_024;
+    pub const EVENTS: u64 = 1_000_000;
+    pub const NUMBERS: u64 = 2_000_000;
+
+    // A table in which nothing is held, inherited, inquired or queued.
+    pub fn blank() -> Table
+        ensures { λ r. ⌜ r ≡ blankTable ⌝ }
+    {
+        [[0; Rig::SITES]; Rig::SITES]
+    }
+}
+
+impl Message {
+    pub const REQUEST: u64 = 1;
+    pub const REPLY: u64 = 2;
+    pub const RELEASE: u64 = 3;
+    pub const INQUIRE: u64 = 4;
+    pub const FAIL: u64 = 5;
+    pub const YIELD: u64 = 6;
+    pub const TRANSFER: u64 = 7;
+
+    pub fn request(from: u64, to: u64, seq: u64) -> Message
+        ensures { λ r. ⌜ r ≡ request from to seq ⌝ }
+    {
+        Message { kind: Message::REQUEST, from: from, to: to, about: 0, number: seq }
+    }
+
+    pub fn reply(from: u64, to: u64, arbiter: u64, grant: u64) -> Message
+        ensures { λ r. ⌜ r ≡ reply from to arbiter grant ⌝ }
+    {
+        Message { kind: Message::REPLY, from: from, to: to, about: arbiter, number: grant }
+    }
+
+    // The heir is 0 where the permission goes back to the arbiter.
+    pub fn release(from: u64, to: u64, heir: u64, grant: u64) -> Message
+        ensures { λ r. ⌜ r ≡ release from to heir grant ⌝ }
+    {
+        Message { kind: Message::RELEASE, from: from, to: to, about: heir, number: grant }
+    }
+
+    pub fn inquire(from: u64, to: u64, grant: u64) -> Message
+        ensures { λ r. ⌜ r ≡ inquire from to grant ⌝ }
+    {
+        Message { kind: Message::INQUIRE, from: from, to: to, about: 0, number: grant }
+    }
+
+    pub fn fail(from: u64, to: u64) -> Message
+        ensures { λ r. ⌜ r ≡ fail from to ⌝ }
+    {
+        Message { kind: Message::FAIL, from: from, to: to, about: 0, number: 0 }
+    }
+
+    // `yield` may be a reserved word of the host languages that read this file, so the function says what it does.
+    pub fn yielding(from: u64, to: u64, grant: u64) -> Message
+        ensures { λ r. ⌜ r ≡ yield from to grant ⌝ }
+    {
+        Message { kind: Message::YIELD, from: from, to: to, about: 0, number: grant }
+    }
+
+    pub fn transfer(from: u64, to: u64, heir: u64, grant: u64) -> Message
+        ensures { λ r. ⌜ r ≡ transfer from to heir grant ⌝ }
+    {
+        Message { kind: Message::TRANSFER, from: from, to: to, about: heir, number: grant }
+    }
+}
