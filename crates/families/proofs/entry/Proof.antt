@@ -1,0 +1,65 @@
+-- `families::entry` meets its contract: one arm for each family.
+use Prim.Native.Nat.{_+_, _≤_}
+use native.Mathlib.Nat.{mul-le-mul}
+use native.Mathlib.Omega.{arith}
+use borrow.Author.Needs.{needs}
+use Rattle.families.specs.Family.{sizeOf, widthOf, entry}
+use Rattle.families.proofs.Parameters.{side-bounds, p-bounds}
+use Rattle.families.proofs.entry.Statement.{statement}
+use Rattle.families.proofs.entry.Tie as tie
+
+enum-known-family : tie.Need-enum-known-family
+enum-known-family c = search needs
+
+grid-entry-requires : tie.Need-grid-entry-requires
+unfolding sizeOf widthOf
+grid-entry-requires c κs =
+    let p = rw (c .before .family .given .1) at (c .before .before .before .pre) in
+    let l = side-bounds _ (p .0) in
+    let m = mul-le-mul (l .1) (l .1) in
+    (omega arith, omega arith, omega arith, omega arith, omega arith, omega arith)
+
+enum-known-family-2 : tie.Need-enum-known-family-2
+enum-known-family-2 c = search needs
+
+billiard-entry-requires : tie.Need-billiard-entry-requires
+unfolding sizeOf widthOf
+billiard-entry-requires c κs = rw (c .before .family2 .given .1) at (c .before .before .before .pre)
+
+enum-known-family-3 : tie.Need-enum-known-family-3
+enum-known-family-3 c = search needs
+
+plane-entry-requires : tie.Need-plane-entry-requires
+unfolding sizeOf widthOf
+plane-entry-requires c κs =
+    let p = rw (c .before .family3 .given .1) at (c .before .before .before .pre) in
+    let l = p-bounds _ (p .0) in
+    let k : c .before .family3 .given .0 .0 + 1 ≤ 6 = omega arith in
+    let m = mul-le-mul (l .1) k in
+    (omega arith, omega arith, omega arith, omega arith, omega arith, omega arith)
+
+returns : tie.Need-returns
+unfolding entry
+returns c = rw (c .before .before .family .given .1) (c .grid-entry .ensures)
+
+returns-2 : tie.Need-returns-2
+unfolding entry
+returns-2 c = rw (c .before .before .family2 .given .1) (c .billiard-entry .ensures)
+
+returns-3 : tie.Need-returns-3
+unfolding entry
+returns-3 c = rw (c .before .before .family3 .given .1) (c .plane-entry .ensures)
+
+pub entry-spec : {M : Type 1} → statement M
+entry-spec =
+    tie.close
+    (tie.spec
+    enum-known-family
+    grid-entry-requires
+    enum-known-family-2
+    billiard-entry-requires
+    enum-known-family-3
+    plane-entry-requires
+    returns
+    returns-2
+    returns-3)

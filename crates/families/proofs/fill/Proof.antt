@@ -1,0 +1,73 @@
+-- `families::fill` meets its contract. The loop's invariant: the first i entries are the sets of sites 1 to i.
+use Prim.Native.Nat.{_≤_, _-_, _<_}
+use mathlib.Core.Path.{_≡_, refl, sym, _∙_}
+use native.Mathlib.Nat.{le-antisymm}
+use native.Mathlib.Numerals.{add-one}
+use native.Mathlib.Omega.{arith}
+use lib.Seq.{take-all, take-suc-set}
+use lib.ListN.{length, take, length-set}
+use borrow.Author.Needs.{needs}
+use Rattle.families.specs.Family.{setsUpTo}
+use Rattle.families.proofs.Parameters.{listed-computed}
+use Rattle.families.proofs.fill.Statement.{statement}
+use Rattle.families.proofs.fill.Tie as tie
+
+abbrev Inv-loop : tie.InvT-loop
+Inv-loop family sets₀ i₀ sets i = (i ≤ 31) × (length sets ≡ 31) × (take i sets ≡ setsUpTo family i)
+
+abbrev μ-loop : tie.MeasureT-loop
+μ-loop family sets₀ i₀ sets i = 31 - i
+
+loop-holds : tie.Need-loop-holds Inv-loop μ-loop
+unfolding setsUpTo
+loop-holds c = (omega arith, c .before .pre .1, refl)
+
+add-set-at : tie.Need-add-set-at Inv-loop μ-loop
+add-set-at c = search needs
+
+set-at-requires : tie.Need-set-at-requires Inv-loop μ-loop
+set-at-requires c κs = listed-computed _ (c .before .before .before .pre .0)
+
+mul-sets : tie.Need-mul-sets Inv-loop μ-loop
+mul-sets c = search needs
+
+slice-write-sets : tie.Need-slice-write-sets Inv-loop μ-loop
+slice-write-sets c = search needs
+
+add-i : tie.Need-add-i Inv-loop μ-loop
+add-i c = search needs
+
+loop-less : tie.Need-loop-less Inv-loop μ-loop
+loop-less c = search needs
+
+loop-again : tie.Need-loop-again Inv-loop μ-loop
+unfolding setsUpTo
+loop-again c =
+    let w = c .before .before .loop in
+    let h : w .i < length (w .sets) = omega arith in
+    (omega arith, simp length-set (w .inv .1), rw (add-one, take-suc-set (w .sets) (w .i), w .inv .2, c .set-at .ensures, add-one))
+
+same-length : tie.Need-same-length Inv-loop μ-loop
+same-length c = c .before .loop .inv .1 ∙ sym (c .before .before .before .pre .1)
+
+returns : tie.Need-returns Inv-loop μ-loop
+returns c =
+    let w = c .before .loop in
+    sym (take-all 31 (w .sets) (omega arith)) ∙ (rw (le-antisymm (w .inv .0) (c .loop-test .left)) at (w .inv .2))
+
+pub fill-spec : {M : Type 1} → statement M
+fill-spec =
+    tie.close
+    (tie.spec
+    Inv-loop
+    μ-loop
+    loop-holds
+    add-set-at
+    set-at-requires
+    mul-sets
+    slice-write-sets
+    add-i
+    loop-less
+    loop-again
+    same-length
+    returns)

@@ -1,0 +1,47 @@
+-- `families::width_of` meets its contract: one arm for each family.
+use native.Mathlib.Omega.{arith}
+use borrow.Author.Needs.{needs}
+use Rattle.families.specs.Family.{widthOf}
+use Rattle.families.proofs.Parameters.{side-bounds, p-bounds}
+use Rattle.families.proofs.width_of.Statement.{statement}
+use Rattle.families.proofs.width_of.Tie as tie
+
+enum-known-family : tie.Need-enum-known-family
+enum-known-family c = search needs
+
+add-result : tie.Need-add-result
+add-result c = omega (arith, side-bounds _ (rw (c .before .family .given .1) at (c .before .before .before .pre)))
+
+enum-known-family-2 : tie.Need-enum-known-family-2
+enum-known-family-2 c = search needs
+
+enum-known-family-3 : tie.Need-enum-known-family-3
+enum-known-family-3 c = search needs
+
+add-result-2 : tie.Need-add-result-2
+add-result-2 c = omega (arith, p-bounds _ (rw (c .before .family3 .given .1) at (c .before .before .before .pre)))
+
+returns : tie.Need-returns
+unfolding widthOf
+returns c = rw (c .before .family .given .1)
+
+returns-2 : tie.Need-returns-2
+unfolding widthOf
+returns-2 c = rw (c .before .family2 .given .1)
+
+returns-3 : tie.Need-returns-3
+unfolding widthOf
+returns-3 c = rw (c .before .family3 .given .1)
+
+pub width-of-spec : {M : Type 1} → statement M
+width-of-spec =
+    tie.close
+    (tie.spec
+    enum-known-family
+    add-result
+    enum-known-family-2
+    enum-known-family-3
+    add-result-2
+    returns
+    returns-2
+    returns-3)

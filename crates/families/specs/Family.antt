@@ -1,0 +1,77 @@
+-- Document 01, "Request set families": what a call that generates a family answers, and the sets that it leaves.
+use Prim.Native.Nat.{ℕ, zero, suc, _+_}
+use mathlib.Core.Bool.{Bool, not, _&&_, _||_, cond}
+use mathlib.Core.List.{List, [], _∷_, _++_}
+use lib.Dec.{eqb, leb}
+use lib.ListN.{length}
+use Rattle.rig.specs.Limits.{siteLimit}
+use Rattle.model.specs.Tables.{any}
+use Rattle.model.specs.Sets.{setOf}
+use Rattle.families.specs.declared.Family.{Family}
+use Rattle.families.specs.declared.Family.the-variants.{Grid, Billiard, Plane}
+use Rattle.families.specs.declared.Made.{Made}
+use Rattle.families.specs.Grid.{gridSize, gridWidth, gridEntry}
+use Rattle.families.specs.Billiard.{billiardSize, billiardEntry}
+use Rattle.families.specs.Plane.{planeSize, planeEntry}
+
+-- "side s from 1 to 5", "q of 3, 5 or 7", "p of 2, 3 or 5"
+unfoldable pub listed : Family → Bool
+listed (Grid s) = leb 1 s && leb s 5
+listed (Billiard q) = eqb q 3 || (eqb q 5 || eqb q 7)
+listed (Plane p) = eqb p 2 || (eqb p 3 || eqb p 5)
+
+-- what the code has sets of: the listed ones, and the billiard of q = 9, of which source 000 prints the sets of sites 11 and 34
+unfoldable pub computed : Family → Bool
+computed (Grid s) = listed (Grid s)
+computed (Billiard q) = listed (Billiard q) || eqb q 9
+computed (Plane p) = listed (Plane p)
+
+-- the number of sites, N
+unfoldable pub sizeOf : Family → ℕ
+sizeOf (Grid s) = gridSize s
+sizeOf (Billiard q) = billiardSize q
+sizeOf (Plane p) = planeSize p
+
+-- how many entries name the members of a site's set
+unfoldable pub widthOf : Family → ℕ
+widthOf (Grid s) = gridWidth s
+widthOf (Billiard q) = q
+widthOf (Plane p) = p + 1
+
+-- the k-th site named for the set of site n, k from 1
+unfoldable pub entry : Family → ℕ → ℕ → ℕ
+entry (Grid s) n k = gridEntry s n k
+entry (Billiard q) n k = billiardEntry q n k
+entry (Plane p) n k = planeEntry p n k
+
+-- site m is in the set of site n
+unfoldable pub hasSite : Family → ℕ → ℕ → Bool
+hasSite f n m = any (λ k. eqb m (entry f n k)) (widthOf f)
+
+-- the set of site n; "Entries past N become empty."
+unfoldable pub setAt : Family → ℕ → ℕ
+setAt f n = cond (leb 1 n && leb n (sizeOf f)) (setOf (hasSite f n) (sizeOf f)) 0
+
+-- the sets of sites 1 to n
+unfoldable pub setsUpTo : Family → ℕ → List ℕ
+setsUpTo f zero = []
+setsUpTo f (suc i) = setsUpTo f i ++ (setAt f (suc i) ∷ [])
+
+abbrev pub setsOf : Family → List ℕ
+setsOf f = setsUpTo f siteLimit
+
+-- "Families. 13 as above" (the buffer of sets is not 31 entries long); "12 if the parameter is not listed."
+unfoldable pub familyCode : Family → ℕ → ℕ
+familyCode f n = cond (not (eqb n siteLimit)) 13 (cond (not (listed f)) 12 0)
+
+-- what the call answers on a buffer of n entries: its code, and N, 0 with a refusal
+unfoldable pub made : Family → ℕ → Made
+made f n = record { code = familyCode f n; size = cond (eqb (familyCode f n) 0) (sizeOf f) 0 }
+
+-- what the buffer holds after the call; "Nothing of .. a lent buffer changes then" (on a refusal)
+unfoldable pub filled : Family → List ℕ → List ℕ
+filled f sets = cond (eqb (familyCode f (length sets)) 0) (setsOf f) sets
+
+-- one billiard set by the rule itself
+unfoldable pub billiardSet : ℕ → ℕ → ℕ
+billiardSet q n = cond (computed (Billiard q)) (setAt (Billiard q) n) 0
