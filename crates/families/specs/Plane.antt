@@ -1,7 +1,8 @@
 -- Document 01, "Request set families": "Plane (002): p of 2, 3 or 5, N = p(p + 1) + 1; site n takes row n of the matrices M1, M2 and so on, laid
 -- one under the other." The matrices are those of source 002, section 3.
-use Prim.Native.Nat.{ℕ, _+_, _-_, _*_, _/_, _%_}
+use Prim.Native.Nat.{ℕ, zero, suc, _+_, _-_, _*_, _/_, _%_}
 use mathlib.Core.Bool.{cond}
+use mathlib.Core.List.{List, [], _∷_}
 use lib.Dec.{eqb, leb}
 
 abbrev pub planeSize : ℕ → ℕ
@@ -24,3 +25,12 @@ unfoldable pub planeEntry : ℕ → ℕ → ℕ → ℕ
 planeEntry p n k =
     cond (leb n (p + 1)) (firstMatrix p n k)
     (otherMatrix p (2 + (n - p - 2) / p) (1 + (n - p - 2) % p) k)
+
+-- the members of all rows for p = 5, one row after the other, six to a row: n of them from place t, counted from 0
+unfoldable pub membersFrom : ℕ → ℕ → List ℕ
+membersFrom t zero = []
+membersFrom t (suc n) = planeEntry 5 (1 + t / 6) (1 + t % 6) ∷ membersFrom (suc t) n
+
+-- "For p = 5 the 186 members ship as a constant table, shown equal to the rule."
+abbrev pub planeTable : List ℕ
+planeTable = membersFrom 0 186

@@ -7,8 +7,9 @@ ghost use Rattle.rig.specs.Limits.{siteLimit};
 ghost use Rattle.model.specs.Setup.{setupCode};
 ghost use Rattle.families.specs.Grid.{gridSite, gridEntry};
 ghost use Rattle.families.specs.Billiard.{billiardSize, columnOf, firstSite, nextSite, pathSite, billiardEntry, stepFits, Location};
-ghost use Rattle.families.specs.Plane.{firstMatrix, generatingMatrix, otherMatrix, planeEntry};
+ghost use Rattle.families.specs.Plane.{firstMatrix, generatingMatrix, otherMatrix, planeEntry, planeTable};
 ghost use Rattle.families.specs.Family.{listed, computed, sizeOf, widthOf, entry, hasSite, setAt, setsOf, made, filled, billiardSet};
+use rig::Rig;
 
 // A family with its parameter: the grid's side s, the billiard's q, the plane's p.
 pub enum Family {
@@ -23,9 +24,9 @@ pub struct Made {
     pub size: u64,
 }
 
-// The plane of p = 5, row by row.
+// The plane of p = 5, row by row: six numbers a row, six rows of the matrix M1, then five rows of each other.
 const PLANE5: [u64; 186] = [
-    1,
+    1, // M1
     2,
     3,
     4,
@@ -61,7 +62,7 @@ const PLANE5: [u64; 186] = [
     29,
     30,
     31,
-    2,
+    2, // M2
     7,
     12,
     17,
@@ -91,7 +92,7 @@ const PLANE5: [u64; 186] = [
     21,
     26,
     31,
-    3,
+    3, // M3
     7,
     13,
     19,
@@ -121,7 +122,7 @@ const PLANE5: [u64; 186] = [
     18,
     24,
     30,
-    4,
+    4, // M4
     7,
     14,
     21,
@@ -151,7 +152,7 @@ const PLANE5: [u64; 186] = [
     20,
     22,
     29,
-    5,
+    5, // M5
     7,
     15,
     18,
@@ -181,7 +182,7 @@ const PLANE5: [u64; 186] = [
     17,
     25,
     28,
-    6,
+    6, // M6
     7,
     16,
     20,
@@ -218,7 +219,7 @@ pub fn generate(family: Family, sets: &mut [u64]) -> Made
     ensures determined { λ r. ⌜ (r ≡ made family (length (now (sets .entry)))) × (now (sets .exit) ≡ filled family (now (sets .entry))) ⌝ }
     ensures accepted { λ r. ⌜ (r .code ≡ 0 → setupCode (r .size) (now (sets .exit)) ≡ 0) ⌝ }
 {
-    if sets.len() != 31 {
+    if sets.len() != Rig::SITES {
         return Made { code: 13, size: 0 };
     }
     if !is_listed(family) {
@@ -258,7 +259,7 @@ fn fill(family: Family, sets: &mut [u64])
     requires { ⌜ (listed family ≡ true) × (length (now sets) ≡ siteLimit) ⌝ }
     ensures { λ _. ⌜ now (sets .exit) ≡ setsOf family ⌝ }
 {
-    for i in 0..31 {
+    for i in 0..Rig::SITES {
         sets[i] = set_at(family, i as u64 + 1);
     }
 }
@@ -404,22 +405,25 @@ fn next_site(q: u64, i: u64, j: u64, k: u64, x: u64) -> u64
     requires { ⌜ (Location q i j) × (stepFits q i j k x ≡ true) ⌝ }
     ensures { λ r. ⌜ r ≡ nextSite q i j k x ⌝ }
 {
+    let short = (q - 1) / 2;
+    let long = (q + 1) / 2;
+    let rows_below = q - i;
     if i + j < q + 1 {
         if k < j {
-            return x - (q - 1) / 2;
+            return x - short;
         }
-        if k <= q - i {
-            return x + (q + 1) / 2;
+        if k <= rows_below {
+            return x + long;
         }
-        return x - (q - 1) / 2;
+        return x - short;
     }
-    if k <= q - i {
-        return x - (q - 1) / 2;
+    if k <= rows_below {
+        return x - short;
     }
     if k < j {
-        return x - (q + 1) / 2;
+        return x - long;
     }
-    x - (q - 1) / 2
+    x - short
 }
 
 // The members for p = 5 are in the table; those for p = 2 and 3 follow the rule.
@@ -441,7 +445,15 @@ fn plane5_entry(n: u64, k: u64) -> u64
     requires { ⌜ (1 ≤ n) × (n ≤ 31) × (1 ≤ k) × (k ≤ 6) ⌝ }
     ensures { λ r. ⌜ r ≡ planeEntry 5 n k ⌝ }
 {
-    PLANE5[((n - 1) * 6 + (k - 1)) as usize]
+    let table = plane5();
+    table[((n - 1) * 6 + (k - 1)) as usize]
+}
+
+// The table equals the rule, at each of its places.
+fn plane5() -> [u64; 186]
+    ensures { λ r. ⌜ r ≡ planeTable ⌝ }
+{
+    PLANE5
 }
 
 fn first_matrix(p: u64, i: u64, j: u64) -> u64
