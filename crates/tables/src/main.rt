@@ -1,0 +1,95 @@
+// Prints the request sets of each listed family, one line a site, two billiard sets for q = 9, and the codes of refused calls.
+use families::Family;
+use libc::STDOUT_FILENO;
+use rig::Rig;
+
+fn main() {
+    print_family(b"grid s=", 1, Family::Grid(1));
+    print_family(b"grid s=", 2, Family::Grid(2));
+    print_family(b"grid s=", 3, Family::Grid(3));
+    print_family(b"grid s=", 4, Family::Grid(4));
+    print_family(b"grid s=", 5, Family::Grid(5));
+    print_family(b"billiard q=", 3, Family::Billiard(3));
+    print_family(b"billiard q=", 5, Family::Billiard(5));
+    print_family(b"billiard q=", 7, Family::Billiard(7));
+    print_site(b"billiard q=", 9, 11, families::billiard_set(9, 11));
+    print_site(b"billiard q=", 9, 34, families::billiard_set(9, 34));
+    print_family(b"plane p=", 2, Family::Plane(2));
+    print_family(b"plane p=", 3, Family::Plane(3));
+    print_family(b"plane p=", 5, Family::Plane(5));
+    print_refusals();
+}
+
+// Parameters that are not listed, and buffers of 30 entries.
+fn print_refusals() {
+    print_family(b"grid s=", 0, Family::Grid(0));
+    print_family(b"grid s=", 6, Family::Grid(6));
+    print_family(b"billiard q=", 9, Family::Billiard(9));
+    print_family(b"plane p=", 4, Family::Plane(4));
+    print_short(b"grid s=", 2, Family::Grid(2));
+    print_short(b"plane p=", 4, Family::Plane(4));
+}
+
+fn print_family(name: &[u8], parameter: u64, family: Family) {
+    let mut sets = [0u64; Rig::SITES];
+    let made = families::generate(family, &mut sets);
+    if made.code == 0 {
+        print_sets(name, parameter, made.size, &sets);
+    } else {
+        print_code(name, parameter, 31, made.code);
+    }
+}
+
+fn print_short(name: &[u8], parameter: u64, family: Family) {
+    let mut sets = [0u64; 30];
+    let made = families::generate(family, &mut sets);
+    print_code(name, parameter, 30, made.code);
+}
+
+fn print_sets(name: &[u8], parameter: u64, size: u64, sets: &[u64; Rig::SITES]) {
+    for i in 0..Rig::SITES {
+        if (i as u64) < size {
+            print_site(name, parameter, i as u64 + 1, sets[i]);
+        }
+    }
+}
+
+// As `grid s=2 site=1: 1,2,3`.
+fn print_site(name: &[u8], parameter: u64, site: u64, set: u64) {
+    io::write_all(STDOUT_FILENO, name);
+    io::print_decimal(STDOUT_FILENO, parameter);
+    io::write_all(STDOUT_FILENO, b" site=");
+    io::print_decimal(STDOUT_FILENO, site);
+    io::write_all(STDOUT_FILENO, b": ");
+    print_members(set);
+    io::write_all(STDOUT_FILENO, b"\n");
+}
+
+// The members, ascending, with commas between them.
+fn print_members(set: u64) {
+    let mut printed = false;
+    for m in 0u64..64 {
+        if (set >> m) % 2 == 1 {
+            print_member(printed, m + 1);
+            printed = true;
+        }
+    }
+}
+
+fn print_member(after_another: bool, member: u64) {
+    if after_another {
+        io::write_all(STDOUT_FILENO, b",");
+    }
+    io::print_decimal(STDOUT_FILENO, member);
+}
+
+// As `grid s=0 entries=31 code=12`.
+fn print_code(name: &[u8], parameter: u64, entries: u64, code: u64) {
+    io::write_all(STDOUT_FILENO, name);
+    io::print_decimal(STDOUT_FILENO, parameter);
+    io::write_all(STDOUT_FILENO, b" entries=");
+    io::print_decimal(STDOUT_FILENO, entries);
+    io::write_all(STDOUT_FILENO, b" code=");
+    io::print_decimal(STDOUT_FILENO, code);
+    io::write_all(STDOUT_FILENO, b"\n");
+}
