@@ -6,3 +6,5 @@ pub mod Constant
 pub mod Locations
 pub mod Accepted
 pub mod Codes
+pub mod Members
+pub mod GridMeets

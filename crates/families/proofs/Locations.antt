@@ -40,6 +40,6 @@ module _ (q n : ℕ) (h : computed (Billiard q) ≡ true) (a : 1 ≤ n) (b : n �
     row-most = leb-true _ _ (for-each (λ q n. leb (rowOf q n) q) refl refl refl refl q n h a b);
     column-least = leb-true _ _ (for-each (λ q n. leb 1 (columnOf q n)) refl refl refl refl q n h a b);
     column-most = leb-true _ _ (for-each (λ q n. leb (columnOf q n) q) refl refl refl refl q n h a b);
-    inside = ltb-true _ _ (for-each (λ q n. ltb (rowOf q n + columnOf q n) (2 * q)) refl refl refl refl q n h a b);
+    sum-most = ltb-true _ _ (for-each (λ q n. ltb (rowOf q n + columnOf q n) (2 * q)) refl refl refl refl q n h a b);
     fits = for-each (λ q n. pathFits q (rowOf q n) (columnOf q n)) refl refl refl refl q n h a b;
   }

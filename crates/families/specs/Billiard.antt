@@ -82,5 +82,5 @@ pub record Location (q i j : ℕ) : Type 0 where
   pub row-most : i ≤ q
   pub column-least : 1 ≤ j
   pub column-most : j ≤ q
-  pub inside : i + j < 2 * q
+  pub sum-most : i + j < 2 * q
   pub fits : pathFits q i j ≡ true

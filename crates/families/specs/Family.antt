@@ -68,7 +68,7 @@ familyCode f n = cond (not (eqb n siteLimit)) 13 (cond (not (listed f)) 12 0)
 unfoldable pub made : Family → ℕ → Made
 made f n = record { code = familyCode f n; size = cond (eqb (familyCode f n) 0) (sizeOf f) 0 }
 
--- what the buffer holds after the call; "Nothing of .. a lent buffer changes then" (on a refusal)
+-- what the buffer holds after the call; turned down: "Nothing of the state or a lent buffer changes then."
 unfoldable pub filled : Family → List ℕ → List ℕ
 filled f sets = cond (eqb (familyCode f (length sets)) 0) (setsOf f) sets
 

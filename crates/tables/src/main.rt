@@ -1,4 +1,6 @@
 // Prints the request sets of each listed family, one line a site, two billiard sets for q = 9, and the codes of refused calls.
+// The file `stdout` was not written by this program. It holds Figure 7 of source 003 (billiard, q = 3, 5, 7), the two sets that source
+// 000 prints for q = 9, Table 1 of source 002 (plane, p = 5), and for the grid and p = 2, 3 what the papers' formulas give.
 use families::Family;
 use libc::STDOUT_FILENO;
 use rig::Rig;
