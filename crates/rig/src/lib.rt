@@ -53,8 +53,11 @@ pub enum Event {
 
 impl Rig {
     pub const SITES: usize = 31;
+
     pub const MESSAGES: usize = 1_024;
+
     pub const EVENTS: u64 = 1_000_000;
+
     pub const NUMBERS: u64 = 2_000_000;
 
     // A table in which nothing is held, inherited, inquired or queued.
@@ -67,54 +70,102 @@ impl Rig {
 
 impl Message {
     pub const REQUEST: u64 = 1;
+
     pub const REPLY: u64 = 2;
+
     pub const RELEASE: u64 = 3;
+
     pub const INQUIRE: u64 = 4;
+
     pub const FAIL: u64 = 5;
+
     pub const YIELD: u64 = 6;
+
     pub const TRANSFER: u64 = 7;
 
     pub fn request(from: u64, to: u64, seq: u64) -> Message
         ensures { λ r. ⌜ r ≡ request from to seq ⌝ }
     {
-        Message { kind: Message::REQUEST, from: from, to: to, about: 0, number: seq }
+        Message {
+            kind: Message::REQUEST,
+            from: from,
+            to: to,
+            about: 0,
+            number: seq,
+        }
     }
 
     pub fn reply(from: u64, to: u64, arbiter: u64, grant: u64) -> Message
         ensures { λ r. ⌜ r ≡ reply from to arbiter grant ⌝ }
     {
-        Message { kind: Message::REPLY, from: from, to: to, about: arbiter, number: grant }
+        Message {
+            kind: Message::REPLY,
+            from: from,
+            to: to,
+            about: arbiter,
+            number: grant,
+        }
     }
 
     // The heir is 0 where the permission goes back to the arbiter.
     pub fn release(from: u64, to: u64, heir: u64, grant: u64) -> Message
         ensures { λ r. ⌜ r ≡ release from to heir grant ⌝ }
     {
-        Message { kind: Message::RELEASE, from: from, to: to, about: heir, number: grant }
+        Message {
+            kind: Message::RELEASE,
+            from: from,
+            to: to,
+            about: heir,
+            number: grant,
+        }
     }
 
     pub fn inquire(from: u64, to: u64, grant: u64) -> Message
         ensures { λ r. ⌜ r ≡ inquire from to grant ⌝ }
     {
-        Message { kind: Message::INQUIRE, from: from, to: to, about: 0, number: grant }
+        Message {
+            kind: Message::INQUIRE,
+            from: from,
+            to: to,
+            about: 0,
+            number: grant,
+        }
     }
 
     pub fn fail(from: u64, to: u64) -> Message
         ensures { λ r. ⌜ r ≡ fail from to ⌝ }
     {
-        Message { kind: Message::FAIL, from: from, to: to, about: 0, number: 0 }
+        Message {
+            kind: Message::FAIL,
+            from: from,
+            to: to,
+            about: 0,
+            number: 0,
+        }
     }
 
     // `yield` may be a reserved word of the host languages that read this file, so the function says what it does.
     pub fn yielding(from: u64, to: u64, grant: u64) -> Message
         ensures { λ r. ⌜ r ≡ yield from to grant ⌝ }
     {
-        Message { kind: Message::YIELD, from: from, to: to, about: 0, number: grant }
+        Message {
+            kind: Message::YIELD,
+            from: from,
+            to: to,
+            about: 0,
+            number: grant,
+        }
     }
 
     pub fn transfer(from: u64, to: u64, heir: u64, grant: u64) -> Message
         ensures { λ r. ⌜ r ≡ transfer from to heir grant ⌝ }
     {
-        Message { kind: Message::TRANSFER, from: from, to: to, about: heir, number: grant }
+        Message {
+            kind: Message::TRANSFER,
+            from: from,
+            to: to,
+            about: heir,
+            number: grant,
+        }
     }
 }
