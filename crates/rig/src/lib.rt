@@ -32,6 +32,21 @@ pub struct Rig {
     pub accepted: u64,
 }
 
+// All that one site has: the number of sites N, its own number and request set, itself as a site and as an arbiter, its entries
+// for each arbiter (the grant number held, the heir, the remembered inquire's number; 0 none), and the sequence number queued of
+// each site (0 none). What a site does depends on this and on the message it gets, and on nothing else.
+pub struct Desk {
+    pub size: u64,
+    pub number: u64,
+    pub members: u64,
+    pub site: Site,
+    pub arbiter: Arbiter,
+    pub held: [u64; Rig::SITES],
+    pub heir: [u64; Rig::SITES],
+    pub inquired: [u64; Rig::SITES],
+    pub queued: [u64; Rig::SITES],
+}
+
 // A table of numbers. `held`, `heir` and `inquired` have a row for each site and a column for each arbiter;
 // `queued` has a row for each arbiter and a column for each site.
 pub type Table = [[u64; Rig::SITES]; Rig::SITES];
