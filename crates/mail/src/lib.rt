@@ -1,0 +1,36 @@
+// A list of messages in plain numbers: a row is kind, from, to, about, number.
+use rig::Message;
+ghost use mathlib.Core.Path.{_≡_};
+ghost use mathlib.Core.List.{List, [], _∷_, _++_};
+ghost use Prim.Native.Nat.{_<_, _+_};
+ghost use lib.ListN.{length, take};
+ghost use Rattle.mail.specs.Rows.{rowOf, messageOf};
+
+pub type Row = [u64; 5];
+
+pub fn row(m: Message) -> Row
+    ensures { λ r. ⌜ r ≡ rowOf m ⌝ }
+{
+    [m.kind, m.from, m.to, m.about, m.number]
+}
+
+pub fn message(r: Row) -> Message
+    ensures { λ m. ⌜ m ≡ messageOf r ⌝ }
+{
+    Message {
+        kind: r[0],
+        from: r[1],
+        to: r[2],
+        about: r[3],
+        number: r[4],
+    }
+}
+
+// An inner call: one message more, behind the first `count`.
+pub fn append(list: &mut [Row], count: usize, m: Message) -> usize
+    requires { ⌜ count < length (now list) ⌝ }
+    ensures { λ r. ⌜ (r ≡ count + 1) × (take r (now (list .exit)) ≡ take count (now (list .entry)) ++ (rowOf m ∷ [])) ⌝ }
+{
+    list[count] = row(m);
+    count + 1
+}
