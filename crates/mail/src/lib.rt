@@ -1,4 +1,5 @@
 // A list of messages in plain numbers: a row is kind, from, to, about, number.
+use rig::Desk;
 use rig::Message;
 ghost use mathlib.Core.Path.{_≡_};
 ghost use mathlib.Core.List.{List, [], _∷_, _++_};
@@ -7,6 +8,12 @@ ghost use lib.ListN.{length, take};
 ghost use Rattle.mail.specs.Rows.{rowOf, messageOf};
 
 pub type Row = [u64; 5];
+
+// What an event did at its site: the next desk, and how many rows of the list of messages to send are now used.
+pub struct Acted {
+    pub desk: Desk,
+    pub count: usize,
+}
 
 pub fn row(m: Message) -> Row
     ensures { λ r. ⌜ r ≡ rowOf m ⌝ }

@@ -1,0 +1,14 @@
+-- What a function that carries out an effect has done.
+use Prim.Native.Nat.{ℕ, _+_}
+use mathlib.Core.Path.{_≡_}
+use mathlib.Core.List.{List, _++_, map}
+use lib.ListN.{length, take}
+use Rattle.model.specs.Desk.{Effect}
+use Rattle.mail.specs.declared.Acted.{Acted}
+use Rattle.mail.specs.Rows.{rowOf}
+
+-- its desk is the effect's, and the messages sent stand behind the first n rows
+pub record Did (e : Effect) (n : ℕ) (rows after : List (List ℕ)) (r : Acted) : Type 0 where
+  pub desk : r .desk ≡ e .desk
+  pub count : r .count ≡ n + length (e .sent)
+  pub sent : take (r .count) after ≡ take n rows ++ map rowOf (e .sent)
