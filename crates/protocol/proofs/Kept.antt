@@ -1,0 +1,10 @@
+pub mod Transfer
+pub mod Fail
+pub mod Enter
+pub mod Ask
+pub mod Reply
+pub mod Leave
+pub mod Grant
+pub mod Release
+pub mod Handed
+pub mod Request

@@ -1,0 +1,17 @@
+pub mod Basics
+pub mod Lists
+pub mod Events
+pub mod Inv
+pub mod Post
+pub mod Laws
+pub mod Live
+pub mod Head
+pub mod Kept
+pub mod Main
+pub mod Local
+pub mod Clauses
+pub mod Stuck
+pub mod Tidying
+pub mod RigMail
+pub mod Whole
+pub mod Small
