@@ -1,10 +1,10 @@
-pub mod Transfer
 pub mod Fail
-pub mod Enter
+pub mod Transfer
+pub mod Entered
 pub mod Ask
-pub mod Reply
 pub mod Leave
-pub mod Grant
+pub mod Reply
+pub mod Granted
 pub mod Release
-pub mod Handed
+pub mod HandOver
 pub mod Request

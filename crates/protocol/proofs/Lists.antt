@@ -4,24 +4,30 @@ use mathlib.Core.Bool.{Bool, true, false}
 use mathlib.Core.List.{List, [], _∷_, _++_}
 use mathlib.Core.Option.{some}
 use native.Mathlib.Omega.{arith}
-use Rattle.protocol.specs.Base.{b2n, count, first, erase}
+use Rattle.protocol.specs.Helpers.{tally, first, withoutFirst}
 use Rattle.protocol.proofs.Basics.{by-bool}
 
+-- Laws of the list under way: how many of its entries pass a test, what every entry satisfies, what taking one off leaves.
+
+abbrev pub indicator : Bool → ℕ
+indicator true = 1
+indicator false = 0
+
 module _ {A : Type 0} where
-  pub count-cons : (p : A → Bool) (x : A) (xs : List A) → count p (x ∷ xs) ≡ b2n (p x) + count p xs
-  unfolding count
-  count-cons p x xs = by-bool (p x) (λ e. rw e (omega arith)) (λ e. rw e (omega arith))
+  pub tally-cons : (p : A → Bool) (x : A) (xs : List A) → tally p (x ∷ xs) ≡ indicator (p x) + tally p xs
+  unfolding tally
+  tally-cons p x xs = by-bool (p x) (λ e. rw e (omega arith)) (λ e. rw e (omega arith))
 
-  pub count-snoc : (p : A → Bool) (xs : List A) (x : A) → count p (xs ++ x ∷ []) ≡ count p xs + b2n (p x)
-  unfolding count
-  count-snoc p [] x = by-bool (p x) (λ e. rw e) (λ e. rw e)
-  count-snoc p (y ∷ xs) x = let ih = count-snoc p xs x in by-bool (p y) (λ e. rw e (omega arith)) (λ e. rw e (omega arith))
+  pub tally-snoc : (p : A → Bool) (xs : List A) (x : A) → tally p (xs ++ x ∷ []) ≡ tally p xs + indicator (p x)
+  unfolding tally
+  tally-snoc p [] x = by-bool (p x) (λ e. rw e) (λ e. rw e)
+  tally-snoc p (y ∷ xs) x = let ih = tally-snoc p xs x in by-bool (p y) (λ e. rw e (omega arith)) (λ e. rw e (omega arith))
 
-  pub count-snoc-no : (p : A → Bool) (xs : List A) (x : A) → p x ≡ false → count p (xs ++ x ∷ []) ≡ count p xs
-  count-snoc-no p xs x e = let w = rw e at (count-snoc p xs x) in omega arith
+  pub tally-snoc-no : (p : A → Bool) (xs : List A) (x : A) → p x ≡ false → tally p (xs ++ x ∷ []) ≡ tally p xs
+  tally-snoc-no p xs x e = let w = rw e at (tally-snoc p xs x) in omega arith
 
-  pub count-snoc-yes : (p : A → Bool) (xs : List A) (x : A) → p x ≡ true → count p (xs ++ x ∷ []) ≡ suc (count p xs)
-  count-snoc-yes p xs x e = let w = rw e at (count-snoc p xs x) in omega arith
+  pub tally-snoc-yes : (p : A → Bool) (xs : List A) (x : A) → p x ≡ true → tally p (xs ++ x ∷ []) ≡ suc (tally p xs)
+  tally-snoc-yes p xs x e = let w = rw e at (tally-snoc p xs x) in omega arith
 
   -- every element
   unfoldable pub All : (A → Type 0) → List A → Type 0
@@ -39,16 +45,16 @@ module _ {A : Type 0} where
   all-map P Q (x ∷ xs) f a = (f x (a .0), all-map P Q xs f (a .1))
 
   -- as above, where a test is known to fail everywhere
-  pub all-map-not : (P Q : A → Type 0) (p : A → Bool) (xs : List A) → count p xs ≡ 0 → ((x : A) → p x ≡ false → P x → Q x) → All P xs → All Q xs
-  unfolding All count
+  pub all-map-not : (P Q : A → Type 0) (p : A → Bool) (xs : List A) → tally p xs ≡ 0 → ((x : A) → p x ≡ false → P x → Q x) → All P xs → All Q xs
+  unfolding All tally
   all-map-not P Q p [] c f a = tt
   all-map-not P Q p (x ∷ xs) c f a =
       by-bool (p x)
       (λ e. let z = rw e at c in absurd (omega arith))
       (λ e. (f x e (a .0), all-map-not P Q p xs (rw e at c) f (a .1)))
 
-  pub all-some : (P : A → Type 0) (p : A → Bool) (xs : List A) → All P xs → 0 < count p xs → (x : A) × (p x ≡ true) × P x
-  unfolding All count
+  pub all-some : (P : A → Type 0) (p : A → Bool) (xs : List A) → All P xs → 0 < tally p xs → (x : A) × (p x ≡ true) × P x
+  unfolding All tally
   all-some P p [] a c = absurd (omega arith)
   all-some P p (x ∷ xs) a c =
       by-bool (p x)
@@ -56,8 +62,8 @@ module _ {A : Type 0} where
       (λ e. all-some P p xs (a .1) (rw e at c))
 
   -- none has the mark
-  pub all-none : (P : A → Type 0) (p : A → Bool) (xs : List A) → All P xs → ((x : A) → P x → p x ≡ false) → count p xs ≡ 0
-  unfolding All count
+  pub all-none : (P : A → Type 0) (p : A → Bool) (xs : List A) → All P xs → ((x : A) → P x → p x ≡ false) → tally p xs ≡ 0
+  unfolding All tally
   all-none P p [] a f = refl
   all-none P p (x ∷ xs) a f = rw (f x (a .0)) (all-none P p xs (a .1) f)
 
@@ -69,20 +75,20 @@ module _ {A : Type 0} where
       (λ t. let q : y ≡ x = cc in rw q at t)
       (λ t. first-holds p xs x (rw t at e))
 
-  pub count-erase : (p q : A → Bool) (xs : List A) (x : A) → first p xs ≡ some x → count q (x ∷ erase p xs) ≡ count q xs
-  unfolding first erase count
-  count-erase p q [] x e = let z : _≡_ {A = ℕ} 0 1 = cc in absurd (omega arith)
-  count-erase p q (y ∷ xs) x e =
+  pub tally-without : (p q : A → Bool) (xs : List A) (x : A) → first p xs ≡ some x → tally q (x ∷ withoutFirst p xs) ≡ tally q xs
+  unfolding first withoutFirst tally
+  tally-without p q [] x e = let z : _≡_ {A = ℕ} 0 1 = cc in absurd (omega arith)
+  tally-without p q (y ∷ xs) x e =
       by-bool (p y)
       (λ t. let w : y ≡ x = cc in rw (t, w))
-      (λ t. let ih = count-erase p q xs x (rw t at e) in
+      (λ t. let ih = tally-without p q xs x (rw t at e) in
       rw t (by-bool (q x) (λ u. by-bool (q y) (λ s. rw (u, s) (let ih′ = rw u at ih in omega arith)) (λ s. rw (u, s) (let ih′ = rw u at ih in omega arith)))
       (λ u. by-bool (q y) (λ s. rw (u, s) (let ih′ = rw u at ih in omega arith)) (λ s. rw (u, s) (let ih′ = rw u at ih in omega arith)))))
 
-  pub all-erase : (p : A → Bool) (P : A → Type 0) (xs : List A) (x : A) → first p xs ≡ some x → All P xs → All P (x ∷ erase p xs)
-  unfolding first erase All
-  all-erase p P [] x e a = let z : _≡_ {A = ℕ} 0 1 = cc in absurd (omega arith)
-  all-erase p P (y ∷ xs) x e a =
+  pub all-without : (p : A → Bool) (P : A → Type 0) (xs : List A) (x : A) → first p xs ≡ some x → All P xs → All P (x ∷ withoutFirst p xs)
+  unfolding first withoutFirst All
+  all-without p P [] x e a = let z : _≡_ {A = ℕ} 0 1 = cc in absurd (omega arith)
+  all-without p P (y ∷ xs) x e a =
       by-bool (p y)
       (λ t. let w : y ≡ x = cc in rw (t, ← w) a)
-      (λ t. let ih = all-erase p P xs x (rw t at e) (a .1) in rw t (ih .0, (a .0, ih .1)))
+      (λ t. let ih = all-without p P xs x (rw t at e) (a .1) in rw t (ih .0, (a .0, ih .1)))

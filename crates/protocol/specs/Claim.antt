@@ -1,44 +1,36 @@
-use Prim.Native.Nat.{ℕ, suc, _+_}
+-- Demand 3 of the rig whose tables are functions, as a statement.
+use Prim.Native.Nat.{ℕ, _+_}
 use mathlib.Core.Path.{_≡_}
 use mathlib.Core.Logic.{_≢_}
-use mathlib.Core.Bool.{Bool, true, false, not}
+use mathlib.Core.Bool.{not, cond}
 use mathlib.Core.List.{List, []}
 use lib.Dec.{eqb}
-use Rattle.protocol.specs.Base.{b2n, sum, count}
-use Rattle.protocol.specs.Proto.{Msg, request, reply, release, handed, inquire, fail, yield, transfer}
-use Rattle.protocol.specs.Sys.{Sys, Lawful}
-use Rattle.protocol.specs.Rig.{Rig, mine, Event, rig-run, rig-start}
+use Rattle.protocol.specs.Helpers.{count, tally}
+use Rattle.protocol.specs.Message.{Message, isOut, isBack}
+use Rattle.protocol.specs.Local.{WAITING, INSIDE}
+use Rattle.protocol.specs.System.{System, Lawful}
+use Rattle.protocol.specs.Rig.{Row, Rig, messagesOf, Event, run, fresh}
 
-abbrev pub isReply : Msg → Bool
-isReply (request i x) = false
-isReply (reply f i x) = true
-isReply (release i x) = false
-isReply (handed i y x) = false
-isReply (inquire i x) = false
-isReply (fail i) = false
-isReply (yield i x) = false
-isReply (transfer i y x) = false
+module _ (y : System) where
+  -- "Places of arbiter j's permission, counted together: free, if j has no holder; travelling out ...; held, each site with a number
+  -- held for j; travelling back ..."
+  abbrev pub freeAt : Row → ℕ
+  freeAt r = cond (eqb r.holder 0) 1 0
 
--- travelling back
-abbrev pub isBack : Msg → Bool
-isBack (request i x) = false
-isBack (reply f i x) = false
-isBack (release i x) = true
-isBack (handed i y x) = false
-isBack (inquire i x) = false
-isBack (fail i) = false
-isBack (yield i x) = true
-isBack (transfer i y x) = false
+  abbrev pub heldAt : Row → ℕ
+  heldAt r = count (λ k. not (eqb (r.held k) 0)) y.size
 
--- Demand 3 of the abstract rig, as a statement
+  abbrev pub places : Row → List Message → ℕ
+  places r ms = freeAt r + tally isOut ms + heldAt r + tally isBack ms
 
-module _ (y : Sys) where
-  -- DEMAND 3, of every run of events from the fresh state
-  pub record Demand3 (r : Rig) : Type 0 where
-    pub exclusion : (k l : ℕ) → r.sites.mode k ≡ 2 → r.sites.mode l ≡ 2 → k ≡ l
-    pub one-place : (j : ℕ) → b2n (eqb ((r.rows j) .holder) 0) + count isReply (mine j r.mail) + sum (λ i. b2n (not (eqb ((r.rows j) .held (suc i)) 0))) y.size + count isBack (mine j r.mail) ≡ 1
-    pub not-stuck : r.mail ≡ [] → ((k : ℕ) → r.sites.mode k ≢ 2) → (k : ℕ) → r.sites.mode k ≢ 1
+  pub record Sound (r : Rig) : Type 0 where
+    -- at most one site inside
+    pub exclusion : (k l : ℕ) → r.sites.mode k ≡ INSIDE → r.sites.mode l ≡ INSIDE → k ≡ l
+    -- each arbiter's permission is in exactly one place
+    pub onePlace : (j : ℕ) → places (r.rows j) (messagesOf j r.underWay) ≡ 1
+    -- "A rig is stuck if no message is under way, no site is inside and a site is waiting."
+    pub notStuck : r.underWay ≡ [] → ((k : ℕ) → r.sites.mode k ≢ INSIDE) → (k : ℕ) → r.sites.mode k ≢ WAITING
 
--- of every accepted family, every order and every list of events
+-- Demand 3: for every family that setup passes, every order of asks, and every list of events from the fresh state
 unfoldable pub Claim : Type 0
-Claim = (y : Sys) → Lawful y → (es : List Event) → Demand3 y (rig-run y es rig-start)
+Claim = (y : System) → Lawful y → (es : List Event) → Sound y (run y es fresh)

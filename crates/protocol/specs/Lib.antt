@@ -1,5 +1,9 @@
-pub mod Base
-pub mod Proto
-pub mod Sys
+pub mod Helpers
+pub mod Message
+pub mod Setting
+pub mod Local
+pub mod Arbiter
+pub mod Site
+pub mod System
 pub mod Rig
 pub mod Claim

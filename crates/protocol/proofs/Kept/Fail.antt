@@ -6,196 +6,200 @@ use mathlib.Core.List.{List, _∷_}
 use native.Mathlib.Omega.{arith}
 use lib.Dec.{eqb}
 use borrow.Author.Tests.{eqb-true, eqb-false, eq-eqb, ne-eqb}
-use Rattle.protocol.specs.Base.{upd, count}
-use Rattle.protocol.specs.Proto.{Par, Msg, inquire, fail, yield, Tables, view, arb, site, col, head, give, mark, got-inquire}
+use Rattle.protocol.specs.Helpers.{update, tally}
+use Rattle.protocol.specs.Message.{Message, inquire, fail, yield}
+use Rattle.protocol.specs.Setting.{Setting}
+use Rattle.protocol.specs.Local.{Local, view, withSites, withEntries}
+use Rattle.protocol.specs.Arbiter.{headOf}
+use Rattle.protocol.specs.Site.{yielded, remembered, onInquire, onFail}
+use Rattle.protocol.specs.Rig.{requests, asked}
 use Rattle.protocol.proofs.Basics.{by-bool, clash, and-split}
 use Rattle.protocol.proofs.Lists.{All}
-use Rattle.protocol.proofs.Inv.{Ghost, ghost, Ord, fails, num, inqs, Asc, Ok, Mail, Mild, Core, Good}
-use Rattle.protocol.proofs.Post.{no}
-use Rattle.protocol.proofs.Laws.{fix, give-core}
-use Rattle.protocol.proofs.Live.{snoc-zero, asc-low, asc-other}
+use Rattle.protocol.proofs.Invariant.{Ghost, ghost, numberOf, isFailTo, isInquire, Ordered, Ascending, InquiryFits, Fits, UnderWayIn, Core, Invariant}
+use Rattle.protocol.proofs.Fitting.{fix, yielded-core}
+use Rattle.protocol.proofs.Owing.{snoc-zero, ascending-low, ascending-other}
 
-module _ (p : Par) where
+module _ (p : Setting) where
   -- L1 of all but one site
-  abbrev pub Owed : (hseq holder : ℕ) (q : ℕ → ℕ) (failed : ℕ → Bool) (own : ℕ) (kn : ℕ → ℕ) (ms : List Msg) → ℕ → Type 0
-  Owed hseq holder q failed own kn ms b = (k : ℕ) → k ≢ b → kn k ≢ 0 → k ≢ own → failed k ≡ false → count (fails k) ms ≡ 0 → (head p q ≡ k) × (p .before (q k) k hseq holder ≡ true)
+  abbrev pub OwedBut : (holderSeq holder : ℕ) (q : ℕ → ℕ) (failed : ℕ → Bool) (owner : ℕ) (known : ℕ → ℕ) (ms : List Message) → ℕ → Type 0
+  OwedBut holderSeq holder q failed owner known ms b = (k : ℕ) → k ≢ b → known k ≢ 0 → k ≢ owner → failed k ≡ false → tally (isFailTo k) ms ≡ 0 → (headOf p q ≡ k) × (p .comesBefore (q k) k holderSeq holder ≡ true)
 
   -- b yields: S4 and L1 need not hold of b before
-  pub give-kept : (t : Tables) (o : Ghost) (b : ℕ) (ms : List Msg) → b ≡ o.own → 0 ≡ o.d → 2 ≡ o.st → t.mode b ≡ 1 → Core p t o ms
-      → ((k : ℕ) → k ≢ b → Mild p t.failed t.held t.inq k) → Owed t.hseq t.holder t.q t.failed o.own o.kn ms b → ((k : ℕ) → Asc k (t.inq k) ms) → Good p (give p (view t ms) b)
-  unfolding give upd
-  give-kept t o b ms x y z w c m ow asc = (
-    ghost b 0 3 o.kn,
+  pub yielded-kept : (t : Local) (o : Ghost) (b : ℕ) (ms : List Message) → b ≡ o.owner → 0 ≡ o.ahead → 2 ≡ o.stage → t.mode b ≡ 1 → Core p t o ms
+      → ((k : ℕ) → k ≢ b → InquiryFits t k) → OwedBut t.holderSeq t.holder t.queued t.failed o.owner o.known ms b → ((k : ℕ) → Ascending k (t.inquired k) ms) → Invariant p (yielded (view t ms) b)
+  unfolding yielded update
+  yielded-kept t o b ms x y z w c m ow ascending = (
+    ghost b 0 3 o.known,
     record {
-      core = give-core p t o.kn b ms (fix p t o ms b 0 2 x y z c) w;
-      mild = λ k. by-bool (eqb k b) (λ e. rw e (λ h. absurd (h refl))) (λ e. rw e (m k (eqb-false k b e)));
-      idle = λ h. absurd (omega arith);
-      live = record {
-        owed = λ k a ne. rw (ne-eqb k b ne) (λ f u. ow k ne a (λ v. ne (v ∙ sym x)) f (snoc-zero (fails k) ms (yield b (t.held b)) u));
-        asked = λ u v l. absurd (omega arith);
-        asc = λ k. asc-other k (upd t.inq b 0 k) ms (yield b (t.held b)) refl (by-bool (eqb k b) (λ e. rw e (asc-low k (t.inq k) 0 ms (omega arith) (asc k))) (λ e. rw e (asc k)));
+      core = yielded-core p t o.known b ms (fix p t o ms b 0 2 x y z c) w;
+      inquiriesFit = λ k. by-bool (eqb k b) (λ e. rw e (λ h. absurd (h refl))) (λ e. rw e (m k (eqb-false k b e)));
+      freeQueueEmpty = λ h. absurd (omega arith);
+      owed = record {
+        failOwed = λ k a ne. rw (ne-eqb k b ne) (λ f u. ow k ne a (λ v. ne (v ∙ sym x)) f (snoc-zero (isFailTo k) ms (yield b (t.held b)) u));
+        inquireOwed = λ u v l. absurd (omega arith);
+        ascending = λ k. ascending-other k (update t.inquired b 0 k) ms (yield b (t.held b)) refl (by-bool (eqb k b) (λ e. rw e (ascending-low k (t.inquired k) 0 ms (omega arith) (ascending k))) (λ e. rw e (ascending k)));
       };
     },
   )
 
   -- what a site that waits and remembers an inquire of the number it holds knows
-  pub yielder : (t : Tables) (o : Ghost) (b n : ℕ) (ms : List Msg) → Core p t o ms → t.held b ≢ 0 → t.held b ≤ t.g → (b ≡ o.own) × (0 ≡ o.d) × (2 ≡ o.st)
+  pub yielder : (t : Local) (o : Ghost) (b n : ℕ) (ms : List Message) → Core p t o ms → t.held b ≢ 0 → t.held b ≤ t.grant → (b ≡ o.owner) × (0 ≡ o.ahead) × (2 ≡ o.stage)
   yielder t o b n ms c h l =
-      let own = c .col .holds b h in
-      let num : t.held o.own ≡ t.g + o.d = c .col .number (own .1) in
-      let hb : t.held b ≡ t.g + o.d = rw (own .0) num in
-      (own .0, omega arith, sym (own .1))
+      let owner = c .column .holds b h in
+      let numberOf : t.held o.owner ≡ t.grant + o.ahead = c .column .number (owner .1) in
+      let hb : t.held b ≡ t.grant + o.ahead = rw (owner .0) numberOf in
+      (owner .0, omega arith, sym (owner .1))
 
   -- the fail may have been the last thing owed to b
-  pub mark-core : (t : Tables) (o : Ghost) (b : ℕ) (ms : List Msg) → Core p t o ms → ((k : ℕ) → Mild p t.failed t.held t.inq k) → (o.st ≡ 0 → (k : ℕ) → t.q k ≡ 0)
-      → Owed t.hseq t.holder t.q t.failed o.own o.kn ms b
-      → (o.d ≡ 0 → o.st ≢ 0 → o.st ≤ 2 → o.kn o.own ≢ 0 → head p t.q ≢ 0 → p .before (t.q (head p t.q)) (head p t.q) t.hseq t.holder ≡ true → t.inq o.own ≢ t.g → 0 < count (inqs o.own t.g) ms)
-      → ((k : ℕ) → Asc k (t.inq k) ms) → Good p (mark p (view t ms) b)
-  unfolding mark upd
-  mark-core t o b ms c mild idle ow asked asc =
+  pub onFail-core : (t : Local) (o : Ghost) (b : ℕ) (ms : List Message) → Core p t o ms → ((k : ℕ) → InquiryFits t k) → (o.stage ≡ 0 → (k : ℕ) → t.queued k ≡ 0)
+      → OwedBut t.holderSeq t.holder t.queued t.failed o.owner o.known ms b
+      → (o.ahead ≡ 0 → o.stage ≢ 0 → o.stage ≤ 2 → o.known o.owner ≢ 0 → headOf p t.queued ≢ 0 → p .comesBefore (t.queued (headOf p t.queued)) (headOf p t.queued) t.holderSeq t.holder ≡ true → t.inquired o.owner ≢ t.grant → 0 < tally (isInquire o.owner t.grant) ms)
+      → ((k : ℕ) → Ascending k (t.inquired k) ms) → Invariant p (onFail (view t ms) b)
+  unfolding onFail update
+  onFail-core t o b ms c inquiriesFit freeQueueEmpty ow asked ascending =
       by-bool (eqb (t.mode b) 1)
       (λ e. let w = eqb-true (t.mode b) 1 e in
       by-bool (eqb (t.held b) 0)
       (λ h. rw (e, h) (plain w (λ i j. absurd (j (eqb-true (t.held b) 0 h)))))
-      (λ h. by-bool (eqb (t.inq b) 0)
-      (λ i. rw (e, h, i) (plain w (λ k l. absurd (k (eqb-true (t.inq b) 0 i)))))
-      (λ i. rw (e, h, i) (let hb = eqb-false (t.held b) 0 h in let ib = eqb-false (t.inq b) 0 i in
-      let q = mild b ib hb in
-      let l = c .col .inqs b ib in
+      (λ h. by-bool (eqb (t.inquired b) 0)
+      (λ i. rw (e, h, i) (plain w (λ k l. absurd (k (eqb-true (t.inquired b) 0 i)))))
+      (λ i. rw (e, h, i) (let hb = eqb-false (t.held b) 0 h in let ib = eqb-false (t.inquired b) 0 i in
+      let q = inquiriesFit b ib hb in
+      let l = c .column .remembered b ib in
       let y = yielder t o b 0 ms c hb (omega arith) in
-      give-kept t o b ms (y .0) (y .1) (y .2) w c (λ k ne. mild k) ow asc))))
+      yielded-kept t o b ms (y .0) (y .1) (y .2) w c (λ k ne. inquiriesFit k) ow ascending))))
       (λ e. rw e (
         o,
         record {
           core = c;
-          mild = mild;
-          idle = idle;
-          live = record {
-            asked = asked;
-            asc = asc;
-            owed = λ k a ne f z. by-bool (eqb k b) (λ y. absurd (eqb-false (t.mode b) 1 e (rw (eqb-true k b y) at (c .asks .known k a .0)))) (λ y. ow k (eqb-false k b y) a ne f z);
+          inquiriesFit = inquiriesFit;
+          freeQueueEmpty = freeQueueEmpty;
+          owed = record {
+            inquireOwed = asked;
+            ascending = ascending;
+            failOwed = λ k a ne f z. by-bool (eqb k b) (λ y. absurd (eqb-false (t.mode b) 1 e (rw (eqb-true k b y) at (c .asks .knownWaits k a .0)))) (λ y. ow k (eqb-false k b y) a ne f z);
           };
         },
       ))
     where
-      plain : t.mode b ≡ 1 → (t.inq b ≢ 0 → t.held b ≢ 0 → ⊥) → Good p (view (site t t.mode t.seq (upd t.failed b true)) ms)
+      plain : t.mode b ≡ 1 → (t.inquired b ≢ 0 → t.held b ≢ 0 → ⊥) → Invariant p (view (withSites t t.mode t.seq (update t.failed b true)) ms)
       plain w f = (
         o,
         record {
-          idle = idle;
-          mild = λ k. by-bool (eqb k b) (λ e. rw e (λ x y. absurd (f (rw (eqb-true k b e) at x) (rw (eqb-true k b e) at y)))) (λ e. rw e (mild k));
-          live = record { asked = asked; asc = asc; owed = λ k. by-bool (eqb k b) (λ e. rw e (λ a ne x. clash true refl x)) (λ e. rw e (ow k (eqb-false k b e))) };
+          freeQueueEmpty = freeQueueEmpty;
+          inquiriesFit = λ k. by-bool (eqb k b) (λ e. rw e (λ x y. absurd (f (rw (eqb-true k b e) at x) (rw (eqb-true k b e) at y)))) (λ e. rw e (inquiriesFit k));
+          owed = record { inquireOwed = asked; ascending = ascending; failOwed = λ k. by-bool (eqb k b) (λ e. rw e (λ a ne x. clash true refl x)) (λ e. rw e (ow k (eqb-false k b e))) };
           core = record {
-            arb = c .arb;
-            col = c .col;
-            mail = c .mail;
+            arbiter = c .arbiter;
+            column = c .column;
+            underWay = c .underWay;
             asks = record {
-              yes = c .asks .yes;
-              no = c .asks .no;
-              entry = c .asks .entry;
-              out = c .asks .out;
-              at = c .asks .at;
-              yld = λ z. let y = c .asks .yld z in (y .0, by-bool (eqb o.own b) (λ e. rw e) (λ e. rw e (y .1)), y .2);
-              rel = c .asks .rel;
-              known = c .asks .known;
-              inside = c .asks .inside;
-              wait = c .asks .wait;
-              calm = λ k. by-bool (eqb k b) (λ e. rw e (λ m. absurd (m (rw (eqb-true k b e) w)))) (λ e. rw e (c .asks .calm k));
+              queuedIfKnown = c .asks .queuedIfKnown;
+              emptyIfUnknown = c .asks .emptyIfUnknown;
+              ownerEntry = c .asks .ownerEntry;
+              outKnown = c .asks .outKnown;
+              heldInside = c .asks .heldInside;
+              yieldedFailed = λ z. let y = c .asks .yieldedFailed z in (y .0, by-bool (eqb o.owner b) (λ e. rw e) (λ e. rw e (y .1)), y .2);
+              releasedLeft = c .asks .releasedLeft;
+              knownWaits = c .asks .knownWaits;
+              insideHolds = c .asks .insideHolds;
+              waitingNumbered = c .asks .waitingNumbered;
+              notWaitingClear = λ k. by-bool (eqb k b) (λ e. rw e (λ m. absurd (m (rw (eqb-true k b e) w)))) (λ e. rw e (c .asks .notWaitingClear k));
             };
           };
         },
       )
 
   -- another arbiter's fail
-  pub mark-kept : (t : Tables) (b : ℕ) (ms : List Msg) → Good p (view t ms) → Good p (mark p (view t ms) b)
-  mark-kept t b ms (o, s) = mark-core t o b ms (s .core) (s .mild) (s .idle) (λ k ne. s .live .owed k) (s .live .asked) (s .live .asc)
+  pub failSeen-kept : (t : Local) (b : ℕ) (ms : List Message) → Invariant p (view t ms) → Invariant p (onFail (view t ms) b)
+  failSeen-kept t b ms (o, s) = onFail-core t o b ms (s .core) (s .inquiriesFit) (s .freeQueueEmpty) (λ k ne. s .owed .failOwed k) (s .owed .inquireOwed) (s .owed .ascending)
 
-  pub fail-kept : (t : Tables) (b : ℕ) (ms : List Msg) → Good p (view t (fail b ∷ ms)) → Good p (mark p (view t ms) b)
-  unfolding All Ord count Asc
-  fail-kept t b ms (o, s) =
+  pub onFail-kept : (t : Local) (b : ℕ) (ms : List Message) → Invariant p (view t (fail b ∷ ms)) → Invariant p (onFail (view t ms) b)
+  unfolding All Ordered tally Ascending
+  onFail-kept t b ms (o, s) =
       let v = s .core in
-      let mail = v .mail in
-      mark-core t o b ms (record {
-        arb = v .arb;
+      let underWay = v .underWay in
+      onFail-core t o b ms (record {
+        arbiter = v .arbiter;
         asks = v .asks;
-        col = v .col;
-        mail = record { toks = mail .toks; reqs = mail .reqs; hands = mail .hands; all = mail .all .1; ord = mail .ord .1 };
+        column = v .column;
+        underWay = record { permissions = underWay .permissions; requests = underWay .requests; handOvers = underWay .handOvers; fit = underWay .fit .1; ordered = underWay .ordered .1 };
       })
-      (s .mild) (s .idle) (λ k ne. rw (ne-eqb k b ne) at (s .live .owed k)) (s .live .asked) (λ k. s .live .asc k .1)
+      (s .inquiriesFit) (s .freeQueueEmpty) (λ k ne. rw (ne-eqb k b ne) at (s .owed .failOwed k)) (s .owed .inquireOwed) (λ k. s .owed .ascending k .1)
 
-  pub inquire-kept : (t : Tables) (b n : ℕ) (ms : List Msg) → Good p (view t (inquire b n ∷ ms)) → Good p (got-inquire p (view t ms) b n)
-  unfolding got-inquire All Ord count upd Ok Asc
-  inquire-kept t b n ms (o, s) =
+  pub onInquire-kept : (t : Local) (b n : ℕ) (ms : List Message) → Invariant p (view t (inquire b n ∷ ms)) → Invariant p (onInquire (view t ms) b n)
+  unfolding onInquire All Ordered tally update Fits Ascending
+  onInquire-kept t b n ms (o, s) =
       let v = s .core in
-      let mail = v .mail in
-      let ok = mail .all .0 in
-      let tail : Mail p t.g t.holder t.q t.mode t.seq o.own o.d o.st o.kn ms = record { toks = mail .toks; reqs = mail .reqs; hands = mail .hands; all = mail .all .1; ord = mail .ord .1 } in
-      let c : Core p t o ms = record { arb = v .arb; asks = v .asks; col = v .col; mail = tail } in
-      let up : t.inq b ≤ n = s .live .asc b .0 (eq-eqb b b refl) in
-      let asc : (k : ℕ) → Asc k (t.inq k) ms = λ k. by-bool (eqb k b)
-      (λ e. let kb = eqb-true k b e in rw kb (asc-low b n (t.inq b) ms up (rw (eq-eqb b b refl) at (s .live .asc b .1))))
-      (λ e. rw e at (s .live .asc k .1)) in
+      let underWay = v .underWay in
+      let ok = underWay .fit .0 in
+      let tail : UnderWayIn p t o ms = record { permissions = underWay .permissions; requests = underWay .requests; handOvers = underWay .handOvers; fit = underWay .fit .1; ordered = underWay .ordered .1 } in
+      let c : Core p t o ms = record { arbiter = v .arbiter; asks = v .asks; column = v .column; underWay = tail } in
+      let up : t.inquired b ≤ n = s .owed .ascending b .0 (eq-eqb b b refl) in
+      let ascending : (k : ℕ) → Ascending k (t.inquired k) ms = λ k. by-bool (eqb k b)
+      (λ e. let kb = eqb-true k b e in rw kb (ascending-low b n (t.inquired b) ms up (rw (eq-eqb b b refl) at (s .owed .ascending b .1))))
+      (λ e. rw e at (s .owed .ascending k .1)) in
       by-bool (eqb (t.mode b) 1)
       (λ e. let w = eqb-true (t.mode b) 1 e in
       by-bool (eqb (t.held b) 0)
-      (λ h. rw (e, h) (note w c ok up asc (λ i j. absurd (j (eqb-true (t.held b) 0 h)))))
-      (λ h. by-bool (eqb (t.held b) n)
-      (λ i. let hn = eqb-true (t.held b) n i in by-bool (t.failed b)
-      (λ f. rw (e, h, i, f) (let y = yielder t o b 0 ms c (eqb-false (t.held b) 0 h) (omega arith) in give-kept t o b ms (y .0) (y .1) (y .2) w c (λ k ne. s .mild k) (λ k ne. s .live .owed k) asc))
-      (λ f. rw (e, h, i, f) (note w c ok up asc (λ x y. (sym hn, f)))))
-      (λ i. rw (e, h, i) (drop c asc (λ ob d0 kn ng.
-      let own = c .col .holds b (eqb-false (t.held b) 0 h) in
-      let nu : t.held o.own ≡ t.g + o.d = c .col .number (own .1) in
-      let hb : t.held b ≡ t.g + o.d = rw (own .0) nu in
-      eqb-false (t.held b) n i (omega arith))))))
-      (λ e. rw e (drop c asc (λ ob d0 kn ng. eqb-false (t.mode b) 1 e (rw ob at (c .asks .known o.own kn .0)))))
+      (λ h. rw (e, h) (note w c ok up ascending (λ i j. absurd (j (eqb-true (t.held b) 0 h)))))
+      (λ h. by-bool (eqb n (t.held b))
+      (λ i. let hn = eqb-true n (t.held b) i in by-bool (t.failed b)
+      (λ f. rw (e, h, i, f) (let y = yielder t o b 0 ms c (eqb-false (t.held b) 0 h) (omega arith) in yielded-kept t o b ms (y .0) (y .1) (y .2) w c (λ k ne. s .inquiriesFit k) (λ k ne. s .owed .failOwed k) ascending))
+      (λ f. rw (e, h, i, f) (note w c ok up ascending (λ x y. (hn, f)))))
+      (λ i. rw (e, h, i) (drop c ascending (λ ob d0 known ng.
+      let owner = c .column .holds b (eqb-false (t.held b) 0 h) in
+      let nu : t.held o.owner ≡ t.grant + o.ahead = c .column .number (owner .1) in
+      let hb : t.held b ≡ t.grant + o.ahead = rw (owner .0) nu in
+      eqb-false n (t.held b) i (omega arith))))))
+      (λ e. rw e (drop c ascending (λ ob d0 known ng. eqb-false (t.mode b) 1 e (rw ob at (c .asks .knownWaits o.owner known .0)))))
     where
       -- the inquire was not the one that is owed
-      drop : Core p t o ms → ((k : ℕ) → Asc k (t.inq k) ms) → (o.own ≡ b → o.d ≡ 0 → o.kn o.own ≢ 0 → t.g ≡ n → ⊥) → Good p (view t ms)
-      drop c asc f = (
+      drop : Core p t o ms → ((k : ℕ) → Ascending k (t.inquired k) ms) → (o.owner ≡ b → o.ahead ≡ 0 → o.known o.owner ≢ 0 → t.grant ≡ n → ⊥) → Invariant p (view t ms)
+      drop c ascending f = (
         o,
         record {
-          mild = s .mild;
-          idle = s .idle;
+          inquiriesFit = s .inquiriesFit;
+          freeQueueEmpty = s .freeQueueEmpty;
           core = c;
-          live = record {
-            owed = s .live .owed;
-            asc = asc;
-            asked = λ a b1 c1 d1 e1 f1 g1. let old = s .live .asked a b1 c1 d1 e1 f1 g1 in
-                by-bool (inqs o.own t.g (inquire b n))
-                (λ u. let y = and-split (eqb o.own b) (eqb t.g n) u in absurd (f (eqb-true o.own b (y .0)) a d1 (eqb-true t.g n (y .1))))
+          owed = record {
+            failOwed = s .owed .failOwed;
+            ascending = ascending;
+            inquireOwed = λ a b1 c1 d1 e1 f1 g1. let old = s .owed .inquireOwed a b1 c1 d1 e1 f1 g1 in
+                by-bool (isInquire o.owner t.grant (inquire b n))
+                (λ u. let y = and-split (eqb o.owner b) (eqb t.grant n) u in absurd (f (eqb-true o.owner b (y .0)) a d1 (eqb-true t.grant n (y .1))))
                 (λ u. rw u at old);
           };
         },
       )
 
-      note : t.mode b ≡ 1 → Core p t o ms → (1 ≤ n) × (n ≤ t.g) × (p .member b ≡ true) → t.inq b ≤ n → ((k : ℕ) → Asc k (t.inq k) ms)
-          → (n ≢ 0 → t.held b ≢ 0 → (n ≡ t.held b) × (t.failed b ≡ false)) → Good p (view (col t t.held t.heir (upd t.inq b n)) ms)
-      note w c ok up asc f = (
+      note : t.mode b ≡ 1 → Core p t o ms → (1 ≤ n) × (n ≤ t.grant) × (p .member b ≡ true) → t.inquired b ≤ n → ((k : ℕ) → Ascending k (t.inquired k) ms)
+          → (n ≢ 0 → t.held b ≢ 0 → (n ≡ t.held b) × (t.failed b ≡ false)) → Invariant p (view (withEntries t t.held t.heir (update t.inquired b n)) ms)
+      note w c ok up ascending f = (
         o,
         record {
-          idle = s .idle;
-          mild = λ k. by-bool (eqb k b) (λ e. rw e (λ x y. let kb = eqb-true k b e in rw kb (f x (rw kb at y)))) (λ e. rw e (s .mild k));
-          live = record {
-            owed = s .live .owed;
-            asc = λ k. by-bool (eqb k b)
-                (λ e. let kb = eqb-true k b e in rw e (rw kb (rw (eq-eqb b b refl) at (s .live .asc b .1))))
-                (λ e. rw e (asc k));
-            asked = λ a b1 c1 d1 e1 f1. by-bool (eqb o.own b)
-                (λ e. let ob = eqb-true o.own b e in rw e (λ g1.
-                let old = s .live .asked a b1 c1 d1 e1 f1 (rw ob (λ z. g1 (omega arith))) in
-                rw (e, ne-eqb t.g n (λ z. g1 (sym z))) at old))
-                (λ e. rw e (λ g1. rw e at (s .live .asked a b1 c1 d1 e1 f1 g1)));
+          freeQueueEmpty = s .freeQueueEmpty;
+          inquiriesFit = λ k. by-bool (eqb k b) (λ e. rw e (λ x y. let kb = eqb-true k b e in rw kb (f x (rw kb at y)))) (λ e. rw e (s .inquiriesFit k));
+          owed = record {
+            failOwed = s .owed .failOwed;
+            ascending = λ k. by-bool (eqb k b)
+                (λ e. let kb = eqb-true k b e in rw e (rw kb (rw (eq-eqb b b refl) at (s .owed .ascending b .1))))
+                (λ e. rw e (ascending k));
+            inquireOwed = λ a b1 c1 d1 e1 f1. by-bool (eqb o.owner b)
+                (λ e. let ob = eqb-true o.owner b e in rw e (λ g1.
+                let old = s .owed .inquireOwed a b1 c1 d1 e1 f1 (rw ob (λ z. g1 (omega arith))) in
+                rw (e, ne-eqb t.grant n (λ z. g1 (sym z))) at old))
+                (λ e. rw e (λ g1. rw e at (s .owed .inquireOwed a b1 c1 d1 e1 f1 g1)));
           };
           core = record {
-            arb = c .arb;
+            arbiter = c .arbiter;
             asks = c .asks;
-            mail = c .mail;
-            col = record {
-              holds = c .col .holds;
-              number = c .col .number;
-              heirs = c .col .heirs;
-              inqs = λ k. by-bool (eqb k b) (λ e. rw e (λ x. let kb = eqb-true k b e in rw kb (w, ok .2, ok .1))) (λ e. rw e (c .col .inqs k));
+            underWay = c .underWay;
+            column = record {
+              holds = c .column .holds;
+              number = c .column .number;
+              heirs = c .column .heirs;
+              remembered = λ k. by-bool (eqb k b) (λ e. rw e (λ x. let kb = eqb-true k b e in rw kb (w, ok .2, ok .1))) (λ e. rw e (c .column .remembered k));
             };
           };
         },

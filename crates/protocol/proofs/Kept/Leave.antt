@@ -6,239 +6,231 @@ use mathlib.Core.List.{List, [], _∷_, _++_}
 use native.Mathlib.Omega.{arith}
 use lib.Dec.{eqb}
 use borrow.Author.Tests.{eqb-true, eqb-false, eq-eqb, ne-eqb}
-use Rattle.protocol.specs.Base.{upd, count}
-use Rattle.protocol.specs.Proto.{Par, Law, Msg, request, reply, release, handed, inquire, fail, yield, transfer, Tables, view, arb, site, col}
-use Rattle.protocol.proofs.Basics.{by-bool, upd-other, clash}
-use Rattle.protocol.proofs.Lists.{count-snoc, count-snoc-no, count-snoc-yes, All, all-snoc, all-map-not}
-use Rattle.protocol.proofs.Events.{leave}
-use Rattle.protocol.proofs.Inv.{Ghost, ghost, tok, req, hand, num, inqs, Ok, Col, Mild, Core, Good}
-use Rattle.protocol.proofs.Post.{no, ord-snoc}
-use Rattle.protocol.proofs.Laws.{fix, all-stage, all-mode, no-req}
-use Rattle.protocol.proofs.Live.{live-post, fix-live, asc-upd}
+use Rattle.protocol.specs.Helpers.{update, tally}
+use Rattle.protocol.specs.Message.{Message, reply, release, handOver}
+use Rattle.protocol.specs.Setting.{Setting, SettingLaw}
+use Rattle.protocol.specs.Local.{Local, view, withSites, withEntries}
+use Rattle.protocol.specs.Site.{remembered}
+use Rattle.protocol.specs.Rig.{requests}
+use Rattle.protocol.proofs.Basics.{by-bool, clash, update-other}
+use Rattle.protocol.proofs.Lists.{tally-snoc, tally-snoc-no, tally-snoc-yes, All, all-snoc, all-map-not}
+use Rattle.protocol.proofs.Invariant.{Ghost, ghost, numberOf, carriesPermission, isRequestOf, isHandOver, situation, InquiryFits, Fits, Column, Core, Invariant}
+use Rattle.protocol.proofs.Sending.{ordered-snoc}
+use Rattle.protocol.proofs.Fitting.{fix, fits-change, no-request, all-stage, all-mode}
+use Rattle.protocol.proofs.Owing.{owed-send, fix-owed, ascending-update}
+use Rattle.protocol.proofs.Seen.{leaveSeen}
 
-module _ (p : Par) (law : Law p) where
-  -- the tables when k has left
-  abbrev left : Tables → ℕ → Tables
-  left t k = col (site t (upd t.mode k 0) t.seq t.failed) (upd t.held k 0) (upd t.heir k 0) (upd t.inq k 0)
+module _ (p : Setting) (law : SettingLaw p) where
+  -- the tables when k has departed
+  abbrev departed : Local → ℕ → Local
+  departed t k = withEntries (withSites t (update t.mode k 0) t.seq t.failed) (update t.held k 0) (update t.heir k 0) (update t.inquired k 0)
 
-  leave-stranger : (t : Tables) (o : Ghost) (k : ℕ) (ms : List Msg) → t.mode k ≡ 2 → p .member k ≡ false → Core p t o ms → Core p (left t k) o ms
-  unfolding upd
+  leave-stranger : (t : Local) (o : Ghost) (k : ℕ) (ms : List Message) → t.mode k ≡ 2 → p .member k ≡ false → Core p t o ms → Core p (departed t k) o ms
+  unfolding update
   leave-stranger t o k ms w nm c =
       let nb : (i : ℕ) → p .member i ≡ true → eqb i k ≡ false = λ i m. ne-eqb i k (λ z. clash (p .member i) m (rw z nm)) in
       record {
-        arb = c .arb;
+        arbiter = c .arbiter;
         asks = record {
-          yes = c .asks .yes;
-          no = c .asks .no;
-          entry = c .asks .entry;
-          out = c .asks .out;
-          yld = c .asks .yld;
-          at = λ z h. rw (nb o.own (c .arb .busy (λ u. omega arith) .0)) (c .asks .at z h);
-          rel = λ z. rw (nb o.own (c .arb .busy (λ u. omega arith) .0)) (c .asks .rel z);
-          known = λ i h. let y = c .asks .known i h in rw (nb i (y .1)) y;
-          inside = λ i. by-bool (eqb i k) (λ e. rw e (λ x. absurd (omega arith))) (λ e. rw e (c .asks .inside i));
-          wait = λ i. by-bool (eqb i k) (λ e. rw e (λ x. absurd (omega arith))) (λ e. rw e (c .asks .wait i));
-          calm = λ i. by-bool (eqb i k) (λ e. rw e (λ x. rw (eqb-true i k e) (c .asks .calm k (λ z. omega arith)))) (λ e. rw e (c .asks .calm i));
+          queuedIfKnown = c .asks .queuedIfKnown;
+          emptyIfUnknown = c .asks .emptyIfUnknown;
+          ownerEntry = c .asks .ownerEntry;
+          outKnown = c .asks .outKnown;
+          yieldedFailed = c .asks .yieldedFailed;
+          heldInside = λ z h. rw (nb o.owner (c .arbiter .whenTaken (λ u. omega arith) .0)) (c .asks .heldInside z h);
+          releasedLeft = λ z. rw (nb o.owner (c .arbiter .whenTaken (λ u. omega arith) .0)) (c .asks .releasedLeft z);
+          knownWaits = λ i h. let y = c .asks .knownWaits i h in rw (nb i (y .1)) y;
+          insideHolds = λ i. by-bool (eqb i k) (λ e. rw e (λ x. absurd (omega arith))) (λ e. rw e (c .asks .insideHolds i));
+          waitingNumbered = λ i. by-bool (eqb i k) (λ e. rw e (λ x. absurd (omega arith))) (λ e. rw e (c .asks .waitingNumbered i));
+          notWaitingClear = λ i. by-bool (eqb i k) (λ e. rw e (λ x. rw (eqb-true i k e) (c .asks .notWaitingClear k (λ z. omega arith)))) (λ e. rw e (c .asks .notWaitingClear i));
         };
-        col = record {
-          holds = λ i. by-bool (eqb i k) (λ e. rw e (λ x. absurd (x refl))) (λ e. rw e (c .col .holds i));
-          number = λ z. rw (nb o.own (c .arb .busy (λ u. omega arith) .0)) (c .col .number z);
-          heirs = λ i. by-bool (eqb i k) (λ e. rw e (λ x. absurd (x refl))) (λ e. rw e (c .col .heirs i));
-          inqs = λ i. by-bool (eqb i k) (λ e. rw e (λ x. absurd (x refl))) (λ e. rw e (c .col .inqs i));
+        column = record {
+          holds = λ i. by-bool (eqb i k) (λ e. rw e (λ x. absurd (x refl))) (λ e. rw e (c .column .holds i));
+          number = λ z. rw (nb o.owner (c .arbiter .whenTaken (λ u. omega arith) .0)) (c .column .number z);
+          heirs = λ i. by-bool (eqb i k) (λ e. rw e (λ x. absurd (x refl))) (λ e. rw e (c .column .heirs i));
+          remembered = λ i. by-bool (eqb i k) (λ e. rw e (λ x. absurd (x refl))) (λ e. rw e (c .column .remembered i));
         };
-        mail = record {
-          toks = c .mail .toks;
-          reqs = λ i. by-bool (eqb i k) (λ e. rw e (λ x. absurd (omega arith))) (λ e. rw e (c .mail .reqs i));
-          hands = c .mail .hands;
-          all = all-mode p t.g t.holder t.q t.mode t.seq _ _ o.own o.d o.st k ms (λ i ne. (rw (ne-eqb i k ne), refl))
-              (no-req p t.g t.holder t.q t.mode t.seq o.own o.d o.st k ms (inr nm) (c .mail .all)) (c .mail .all);
-          ord = c .mail .ord;
+        underWay = record {
+          permissions = c .underWay .permissions;
+          requests = λ i. by-bool (eqb i k) (λ e. rw e (λ x. absurd (omega arith))) (λ e. rw e (c .underWay .requests i));
+          handOvers = c .underWay .handOvers;
+          fit = all-mode p (situation t o.owner o.ahead o.stage) _ _ k ms (λ i ne. (rw (ne-eqb i k ne), refl))
+              (no-request p (situation t o.owner o.ahead o.stage) k ms (inr nm) (c .underWay .fit)) (c .underWay .fit);
+          ordered = c .underWay .ordered;
         };
       }
 
   -- what is common to both ways to leave: the asks and columns that do not speak of the owner
-  module _ (t : Tables) (k d : ℕ) (kn : ℕ → ℕ) (ms : List Msg) (w : t.mode k ≡ 2) (c : Core p t (ghost k d 2 kn) ms) where
-    nk : (i : ℕ) → kn i ≢ 0 → eqb i k ≡ false
-    nk i h = ne-eqb i k (λ z. let y = c .asks .known i h .0 in let u : t.mode i ≡ 2 = rw z w in omega arith)
+  module _ (t : Local) (k d : ℕ) (known : ℕ → ℕ) (ms : List Message) (w : t.mode k ≡ 2) (c : Core p t (ghost k d 2 known) ms) where
+    nk : (i : ℕ) → known i ≢ 0 → eqb i k ≡ false
+    nk i h = ne-eqb i k (λ z. let y = c .asks .knownWaits i h .0 in let u : t.mode i ≡ 2 = rw z w in omega arith)
 
-    kn0 : kn k ≡ 0
-    kn0 = by-bool (eqb (kn k) 0) (λ e. eqb-true (kn k) 0 e) (λ e. clash (eqb k k) (eq-eqb k k refl) (nk k (eqb-false (kn k) 0 e)))
+    known-none : known k ≡ 0
+    known-none = by-bool (eqb (known k) 0) (λ e. eqb-true (known k) 0 e) (λ e. clash (eqb k k) (eq-eqb k k refl) (nk k (eqb-false (known k) 0 e)))
 
-    none-of : count (req k) ms ≡ 0
-    none-of = no-req p t.g t.holder t.q t.mode t.seq k d 2 k ms (inl (λ z. omega arith)) (c .mail .all)
+    none-of : tally (isRequestOf k) ms ≡ 0
+    none-of = no-request p (situation t k d 2) k ms (inl (λ z. omega arith)) (c .underWay .fit)
 
-    l-inside : (own st : ℕ) (i : ℕ) → (left t k) .mode i ≡ 2 → p .member i ≡ true → (i ≡ own) × (st ≡ 2)
-    unfolding upd
-    l-inside own st i = by-bool (eqb i k) (λ e. rw e (λ x. absurd (omega arith))) (λ e. rw e (λ x y. absurd (eqb-false i k e (c .asks .inside i x y .0))))
+    l-inside : (owner stage : ℕ) (i : ℕ) → (departed t k) .mode i ≡ 2 → p .member i ≡ true → (i ≡ owner) × (stage ≡ 2)
+    unfolding update
+    l-inside owner stage i = by-bool (eqb i k) (λ e. rw e (λ x. absurd (omega arith))) (λ e. rw e (λ x y. absurd (eqb-false i k e (c .asks .insideHolds i x y .0))))
 
-    l-wait : (i : ℕ) → (left t k) .mode i ≡ 1 → 1 ≤ t.seq i
-    unfolding upd
-    l-wait i = by-bool (eqb i k) (λ e. rw e (λ x. absurd (omega arith))) (λ e. rw e (c .asks .wait i))
+    l-wait : (i : ℕ) → (departed t k) .mode i ≡ 1 → 1 ≤ t.seq i
+    unfolding update
+    l-wait i = by-bool (eqb i k) (λ e. rw e (λ x. absurd (omega arith))) (λ e. rw e (c .asks .waitingNumbered i))
 
-    l-calm : (i : ℕ) → (left t k) .mode i ≢ 1 → (t.seq i ≡ 0) × (t.failed i ≡ false)
-    unfolding upd
-    l-calm i = by-bool (eqb i k) (λ e. rw e (λ x. rw (eqb-true i k e) (c .asks .calm k (λ z. omega arith)))) (λ e. rw e (c .asks .calm i))
+    l-calm : (i : ℕ) → (departed t k) .mode i ≢ 1 → (t.seq i ≡ 0) × (t.failed i ≡ false)
+    unfolding update
+    l-calm i = by-bool (eqb i k) (λ e. rw e (λ x. rw (eqb-true i k e) (c .asks .notWaitingClear k (λ z. omega arith)))) (λ e. rw e (c .asks .notWaitingClear i))
 
-    l-known : (i : ℕ) → kn i ≢ 0 → ((left t k) .mode i ≡ 1) × (p .member i ≡ true) × (kn i ≡ 1)
-    unfolding upd
-    l-known i h = rw (nk i h) (c .asks .known i h)
+    l-known : (i : ℕ) → known i ≢ 0 → ((departed t k) .mode i ≡ 1) × (p .member i ≡ true) × (known i ≡ 1)
+    unfolding update
+    l-known i h = rw (nk i h) (c .asks .knownWaits i h)
 
-    l-col : (own d′ st : ℕ) → st ≢ 2 → Col p t.g t.q ((left t k) .mode) ((left t k) .held) ((left t k) .heir) ((left t k) .inq) own d′ st
-    unfolding upd
-    l-col own d′ st s2 = record {
-      holds = λ i. by-bool (eqb i k) (λ e. rw e (λ x. absurd (x refl))) (λ e. rw e (λ x. absurd (eqb-false i k e (c .col .holds i x .0))));
+    l-col : (owner d′ stage : ℕ) → stage ≢ 2 → Column p t.grant t.queued ((departed t k) .mode) ((departed t k) .held) ((departed t k) .heir) ((departed t k) .inquired) owner d′ stage
+    unfolding update
+    l-col owner d′ stage s2 = record {
+      holds = λ i. by-bool (eqb i k) (λ e. rw e (λ x. absurd (x refl))) (λ e. rw e (λ x. absurd (eqb-false i k e (c .column .holds i x .0))));
       number = λ z. absurd (s2 z);
-      heirs = λ i. by-bool (eqb i k) (λ e. rw e (λ x. absurd (x refl))) (λ e. rw e (λ x. absurd (eqb-false i k e (c .col .heirs i x .0))));
-      inqs = λ i. by-bool (eqb i k) (λ e. rw e (λ x. absurd (x refl))) (λ e. rw e (c .col .inqs i));
+      heirs = λ i. by-bool (eqb i k) (λ e. rw e (λ x. absurd (x refl))) (λ e. rw e (λ x. absurd (eqb-false i k e (c .column .heirs i x .0))));
+      remembered = λ i. by-bool (eqb i k) (λ e. rw e (λ x. absurd (x refl))) (λ e. rw e (c .column .remembered i));
     }
 
-    l-all : (own d′ st : ℕ) → All (Ok p t.g t.holder t.q t.mode t.seq own d′ st) ms → All (Ok p t.g t.holder t.q ((left t k) .mode) t.seq own d′ st) ms
-    unfolding upd
-    l-all own d′ st a = all-mode p t.g t.holder t.q t.mode t.seq _ _ own d′ st k ms (λ i ne. (rw (ne-eqb i k ne), refl)) none-of a
+    l-all : (owner d′ stage : ℕ) → All (Fits p (situation t owner d′ stage)) ms → All (Fits p (situation (departed t k) owner d′ stage)) ms
+    unfolding update
+    l-all owner d′ stage a = all-mode p (situation t owner d′ stage) _ _ k ms (λ i ne. (rw (ne-eqb i k ne), refl)) none-of a
 
-    leave-plain : Core p (left t k) (ghost k d 4 kn) (ms ++ release k (t.held k) ∷ [])
-    unfolding upd Ok
+    leave-plain : Core p (departed t k) (ghost k d 4 known) (ms ++ release k (t.held k) ∷ [])
+    unfolding update Fits
     leave-plain =
-        let z0 = kn0 in
+        let z0 = known-none in
         record {
-          arb = record { one-d = c .arb .one-d; same = c .arb .same; over = c .arb .over; free = λ z. absurd (omega arith); busy = λ z. c .arb .busy (λ y. omega arith); stages = omega arith; qh = c .arb .qh };
+          arbiter = record { aheadByOne = c .arbiter .aheadByOne; ownerIsHolder = c .arbiter .ownerIsHolder; handedOver = c .arbiter .handedOver; whenFree = λ z. absurd (omega arith); whenTaken = λ z. c .arbiter .whenTaken (λ y. omega arith); stageRange = omega arith; holderNotQueued = c .arbiter .holderNotQueued };
           asks = record {
-            yes = c .asks .yes;
-            no = c .asks .no;
-            entry = c .asks .entry;
-            out = λ z. absurd (omega arith);
-            at = λ z. absurd (omega arith);
-            yld = λ z. absurd (omega arith);
-            rel = λ z. (kn0, rw (eq-eqb k k refl) (λ y. omega arith));
-            known = l-known;
-            inside = l-inside k 4;
-            wait = l-wait;
-            calm = l-calm;
+            queuedIfKnown = c .asks .queuedIfKnown;
+            emptyIfUnknown = c .asks .emptyIfUnknown;
+            ownerEntry = c .asks .ownerEntry;
+            outKnown = λ z. absurd (omega arith);
+            heldInside = λ z. absurd (omega arith);
+            yieldedFailed = λ z. absurd (omega arith);
+            releasedLeft = λ z. (known-none, rw (eq-eqb k k refl) (λ y. omega arith));
+            knownWaits = l-known;
+            insideHolds = l-inside k 4;
+            waitingNumbered = l-wait;
+            notWaitingClear = l-calm;
           };
-          col = l-col k d 4 (λ z. omega arith);
-          mail = record {
-            toks = rw (count-snoc-yes tok ms (release k (t.held k)) refl) (ap suc (c .mail .toks));
-            reqs = λ i. by-bool (eqb i k) (λ e. rw e (λ x. absurd (omega arith))) (λ e. rw (e, count-snoc-no (req i) ms (release k (t.held k)) refl) (c .mail .reqs i));
-            hands = λ u. let z = c .mail .hands u in let y = count-snoc (hand t.holder k t.g) ms (release k (t.held k)) in omega arith;
-            all = all-snoc _ ms (release k (t.held k)) (l-all k d 4 (all-stage p t.g t.holder t.q t.mode t.seq k d 2 4 ms (c .mail .toks) (c .mail .all))) (refl, c .col .number refl, refl);
-            ord = ord-snoc ms (release k (t.held k)) (λ i e. rw (eqb-true i k e) none-of) (c .mail .ord);
+          column = l-col k d 4 (λ z. omega arith);
+          underWay = record {
+            permissions = rw (tally-snoc-yes carriesPermission ms (release k (t.held k)) refl) (ap suc (c .underWay .permissions));
+            requests = λ i. by-bool (eqb i k) (λ e. rw e (λ x. absurd (omega arith))) (λ e. rw (e, tally-snoc-no (isRequestOf i) ms (release k (t.held k)) refl) (c .underWay .requests i));
+            handOvers = λ u. let z = c .underWay .handOvers u in let y = tally-snoc (isHandOver t.holder k t.grant) ms (release k (t.held k)) in omega arith;
+            fit = all-snoc _ ms (release k (t.held k)) (l-all k d 4 (all-stage p t k d 2 4 ms (c .underWay .permissions) (c .underWay .fit))) (refl, c .column .number refl, refl);
+            ordered = ordered-snoc ms (release k (t.held k)) (λ i e. rw (eqb-true i k e) none-of) (c .underWay .ordered);
           };
         }
 
-  -- no hand-over is under way yet
-  ok-hand : (g holder : ℕ) (q mode seq : ℕ → ℕ) (own y st st′ : ℕ) (m : Msg) → tok m ≡ false → Ok p g holder q mode seq own 0 st m → Ok p g holder q mode seq y 1 st′ m
-  unfolding Ok
-  ok-hand g holder q mode seq own y st st′ (request k n) e a = a
-  ok-hand g holder q mode seq own y st st′ (reply f k n) e a = clash true refl e
-  ok-hand g holder q mode seq own y st st′ (release k n) e a = clash true refl e
-  ok-hand g holder q mode seq own y st st′ (handed k x n) e a = (a .0, λ u. let w = a .1 u in absurd (omega arith), a .2, a .3, a .4)
-  ok-hand g holder q mode seq own y st st′ (inquire k n) e a = a
-  ok-hand g holder q mode seq own y st st′ (fail k) e a = a
-  ok-hand g holder q mode seq own y st st′ (yield k n) e a = clash true refl e
-  ok-hand g holder q mode seq own y st st′ (transfer k x n) e a = a
-
-  leave-heir : (t : Tables) (k x : ℕ) (kn : ℕ → ℕ) (ms : List Msg) → t.mode k ≡ 2 → t.q x ≢ 0 → Core p t (ghost k 0 2 kn) ms
-      → Core p (left t k) (ghost x 1 1 kn) ((ms ++ reply k x (suc (t.held k)) ∷ []) ++ handed k x (t.held k) ∷ [])
-  unfolding upd Ok
-  leave-heir t k x kn ms w qx c =
-      let busy = c .arb .busy (λ y. omega arith) in
-      let hk : k ≡ t.holder = c .arb .same refl in
-      let qk : t.q k ≡ 0 = rw hk (c .arb .qh) in
+  leave-heir : (t : Local) (k x : ℕ) (known : ℕ → ℕ) (ms : List Message) → t.mode k ≡ 2 → t.queued x ≢ 0 → Core p t (ghost k 0 2 known) ms
+      → Core p (departed t k) (ghost x 1 1 known) ((ms ++ reply k x (suc (t.held k)) ∷ []) ++ handOver k x (t.held k) ∷ [])
+  unfolding update Fits
+  leave-heir t k x known ms w qx c =
+      let busy = c .arbiter .whenTaken (λ y. omega arith) in
+      let hk : k ≡ t.holder = c .arbiter .ownerIsHolder refl in
+      let qk : t.queued k ≡ 0 = rw hk (c .arbiter .holderNotQueued) in
       let xk : x ≢ k = λ z. qx (rw z qk) in
-      let kx : kn x ≢ 0 = λ z. qx (c .asks .no x xk z) in
-      let r = law .in-range t.holder (busy .1) in
-      let kr = law .in-range k (busy .0) in
-      let num : t.held k ≡ t.g + 0 = c .col .number refl in
+      let kx : known x ≢ 0 = λ z. qx (c .asks .emptyIfUnknown x xk z) in
+      let r = law .siteInRange t.holder (busy .1) in
+      let kr = law .siteInRange k (busy .0) in
+      let numberOf : t.held k ≡ t.grant + 0 = c .column .number refl in
       let r1 = reply k x (suc (t.held k)) in
-      let r2 = handed k x (t.held k) in
+      let r2 = handOver k x (t.held k) in
       let ms1 = ms ++ r1 ∷ [] in
-      let z0 = kn0 t k 0 kn ms w c in
+      let z0 = known-none t k 0 known ms w c in
       record {
-        arb = record {
-          one-d = omega arith;
-          same = λ z. absurd (omega arith);
-          over = λ z. (omega arith, r .0, λ y. xk (y ∙ sym hk));
-          free = λ z. absurd (omega arith);
-          busy = λ z. (c .asks .known x kx .1, busy .1, busy .2, busy .3);
-          stages = omega arith;
-          qh = c .arb .qh;
+        arbiter = record {
+          aheadByOne = omega arith;
+          ownerIsHolder = λ z. absurd (omega arith);
+          handedOver = λ z. (omega arith, r .0, λ y. xk (y ∙ sym hk));
+          whenFree = λ z. absurd (omega arith);
+          whenTaken = λ z. (c .asks .knownWaits x kx .1, busy .1, busy .2, busy .3);
+          stageRange = omega arith;
+          holderNotQueued = c .arbiter .holderNotQueued;
         };
         asks = record {
-          yes = λ i ne h. c .asks .yes i (eqb-false i k (nk t k 0 kn ms w c i h)) h;
-          no = λ i ne h. by-bool (eqb i k) (λ e. rw (eqb-true i k e) qk) (λ e. c .asks .no i (eqb-false i k e) h);
-          entry = λ h. (λ z. absurd (omega arith), λ z. c .asks .yes x xk kx);
-          out = λ z. kx;
-          at = λ z. absurd (omega arith);
-          yld = λ z. absurd (omega arith);
-          rel = λ z. absurd (omega arith);
-          known = l-known t k 0 kn ms w c;
-          inside = l-inside t k 0 kn ms w c x 1;
-          wait = l-wait t k 0 kn ms w c;
-          calm = l-calm t k 0 kn ms w c;
+          queuedIfKnown = λ i ne h. c .asks .queuedIfKnown i (eqb-false i k (nk t k 0 known ms w c i h)) h;
+          emptyIfUnknown = λ i ne h. by-bool (eqb i k) (λ e. rw (eqb-true i k e) qk) (λ e. c .asks .emptyIfUnknown i (eqb-false i k e) h);
+          ownerEntry = λ h. (λ z. absurd (omega arith), λ z. c .asks .queuedIfKnown x xk kx);
+          outKnown = λ z. kx;
+          heldInside = λ z. absurd (omega arith);
+          yieldedFailed = λ z. absurd (omega arith);
+          releasedLeft = λ z. absurd (omega arith);
+          knownWaits = l-known t k 0 known ms w c;
+          insideHolds = l-inside t k 0 known ms w c x 1;
+          waitingNumbered = l-wait t k 0 known ms w c;
+          notWaitingClear = l-calm t k 0 known ms w c;
         };
-        col = l-col t k 0 kn ms w c x 1 1 (λ z. omega arith);
-        mail = record {
-          toks = rw (count-snoc-no tok ms1 r2 refl, count-snoc-yes tok ms r1 refl) (ap suc (c .mail .toks));
-          reqs = λ i. by-bool (eqb i k) (λ e. rw e (λ x. absurd (omega arith))) (λ e. rw (e, count-snoc-no (req i) ms1 r2 refl, count-snoc-no (req i) ms r1 refl) (c .mail .reqs i));
-          hands = λ u. rw (count-snoc-yes (hand t.holder x t.g) ms1 r2 (rw (eq-eqb t.holder k (sym hk), eq-eqb x x refl, eq-eqb t.g (t.held k) (omega arith)))) (omega arith);
-          all = all-snoc _ ms1 r2 (all-snoc _ ms r1
-              (l-all t k 0 kn ms w c x 1 1 (all-map-not _ _ tok ms (c .mail .toks) (λ m e a. ok-hand t.g t.holder t.q t.mode t.seq k x 2 1 m e a) (c .mail .all)))
+        column = l-col t k 0 known ms w c x 1 1 (λ z. omega arith);
+        underWay = record {
+          permissions = rw (tally-snoc-no carriesPermission ms1 r2 refl, tally-snoc-yes carriesPermission ms r1 refl) (ap suc (c .underWay .permissions));
+          requests = λ i. by-bool (eqb i k) (λ e. rw e (λ x. absurd (omega arith))) (λ e. rw (e, tally-snoc-no (isRequestOf i) ms1 r2 refl, tally-snoc-no (isRequestOf i) ms r1 refl) (c .underWay .requests i));
+          handOvers = λ u. rw (tally-snoc-yes (isHandOver t.holder x t.grant) ms1 r2 (rw (eq-eqb t.holder k (sym hk), eq-eqb x x refl, eq-eqb t.grant (t.held k) (omega arith)))) (omega arith);
+          fit = all-snoc _ ms1 r2 (all-snoc _ ms r1
+              (l-all t k 0 known ms w c x 1 1 (all-map-not _ _ carriesPermission ms (c .underWay .permissions) (λ m e a. fits-change p _ _ m (λ i r. (refl, refl)) (λ u. clash (carriesPermission m) u e) (omega arith) (λ i y u v. let w = v .2 in absurd (omega arith)) (λ i y u v f. f v) a) (c .underWay .fit)))
               (refl, omega arith, refl, kr .0, kr .1))
-              (omega arith, λ u. (hk, refl, refl), busy .0, c .asks .known x kx .1, omega arith);
-          ord = ord-snoc ms1 r2 (λ i e. rw (count-snoc-no (req i) ms r1 refl, eqb-true i k e) (none-of t k 0 kn ms w c)) (ord-snoc ms r1 (λ i e. clash true refl (sym e)) (c .mail .ord));
+              (omega arith, λ u. (hk, refl, refl), busy .0, c .asks .knownWaits x kx .1, omega arith);
+          ordered = ordered-snoc ms1 r2 (λ i e. rw (tally-snoc-no (isRequestOf i) ms r1 refl, eqb-true i k e) (none-of t k 0 known ms w c)) (ordered-snoc ms r1 (λ i e. clash true refl (sym e)) (c .underWay .ordered));
         };
       }
 
-  mild-left : (t : Tables) (k i : ℕ) → Mild p t.failed t.held t.inq i → Mild p t.failed ((left t k) .held) ((left t k) .inq) i
-  unfolding upd
-  mild-left t k i m = by-bool (eqb i k) (λ e. rw e (λ x. absurd (x refl))) (λ e. rw e m)
+  inquiriesFit-left : (t : Local) (k i : ℕ) → InquiryFits t i → InquiryFits (departed t k) i
+  unfolding update
+  inquiriesFit-left t k i m = by-bool (eqb i k) (λ e. rw e (λ x. absurd (x refl))) (λ e. rw e m)
 
-  pub leave-kept : (t : Tables) (k : ℕ) (ms : List Msg) → t.mode k ≡ 2 → Good p (view t ms) → Good p (leave p (view t ms) k)
-  unfolding leave
-  leave-kept t k ms w (o, s) =
+  pub leaveSeen-kept : (t : Local) (k : ℕ) (ms : List Message) → t.mode k ≡ 2 → Invariant p (view t ms) → Invariant p (leaveSeen p (view t ms) k)
+  unfolding leaveSeen
+  leaveSeen-kept t k ms w (o, s) =
       let c = s .core in
       by-bool (p .member k)
-      (λ e. let y = c .asks .inside k w e in
-      let c1 = fix p t o ms k o.d 2 (y .0) refl (sym (y .1)) c in
-      let busy = c1 .arb .busy (λ z. omega arith) in
-      let num : t.held k ≡ t.g + o.d = c1 .col .number refl in
+      (λ e. let y = c .asks .insideHolds k w e in
+      let c1 = fix p t o ms k o.ahead 2 (y .0) refl (sym (y .1)) c in
+      let busy = c1 .arbiter .whenTaken (λ z. omega arith) in
+      let numberOf : t.held k ≡ t.grant + o.ahead = c1 .column .number refl in
       let ne : eqb (t.held k) 0 ≡ false = ne-eqb (t.held k) 0 (λ z. omega arith) in
       by-bool (eqb (t.heir k) 0)
       (λ h. rw (e, ne, h) (
-        ghost k o.d 4 o.kn,
+        ghost k o.ahead 4 o.known,
         record {
-          core = leave-plain t k o.d o.kn ms w c1;
-          mild = milder;
-          idle = λ z. absurd (omega arith);
-          live = live-post p ms (release k (t.held k)) (λ i. refl) (let l = fix-live p o.own o.d o.st k o.d 2 (y .0) refl (sym (y .1)) (s .live) in
-              record { owed = l .owed; asked = λ u v x. absurd (omega arith); asc = asc-upd p t.inq k 0 ms (omega arith) (s .live .asc) });
+          core = leave-plain t k o.ahead o.known ms w c1;
+          inquiriesFit = fits-still;
+          freeQueueEmpty = λ z. absurd (omega arith);
+          owed = owed-send p ms (release k (t.held k)) (λ i. refl) (let l = fix-owed p o.owner o.ahead o.stage k o.ahead 2 (y .0) refl (sym (y .1)) (s .owed) in
+              record { failOwed = l .failOwed; inquireOwed = λ u v x. absurd (omega arith); ascending = ascending-update p t.inquired k 0 ms (omega arith) (s .owed .ascending) });
         },
       ))
-      (λ h. let x = c1 .col .heirs k (eqb-false (t.heir k) 0 h) in
+      (λ h. let x = c1 .column .heirs k (eqb-false (t.heir k) 0 h) in
       rw (e, ne, h) (
-        ghost (t.heir k) 1 1 o.kn,
+        ghost (t.heir k) 1 1 o.known,
         record {
-          core = leave-heir t k (t.heir k) o.kn ms w (x .3) (fix p t o ms k 0 2 (y .0) (sym (x .2)) (sym (y .1)) c);
-          mild = milder;
-          idle = λ z. absurd (omega arith);
-          live = live-post p (ms ++ reply k (t.heir k) (suc (t.held k)) ∷ []) (handed k (t.heir k) (t.held k)) (λ i. refl) (live-post p ms (reply k (t.heir k) (suc (t.held k))) (λ i. refl)
-              (let l = fix-live p o.own o.d o.st k o.d 2 (y .0) refl (sym (y .1)) (s .live) in
-              record { owed = λ i a ne. l .owed i a (eqb-false i k (nk t k o.d o.kn ms w c1 i a)); asked = λ u. absurd (omega arith); asc = asc-upd p t.inq k 0 ms (omega arith) (s .live .asc) }));
+          core = leave-heir t k (t.heir k) o.known ms w (x .3) (fix p t o ms k 0 2 (y .0) (sym (x .2)) (sym (y .1)) c);
+          inquiriesFit = fits-still;
+          freeQueueEmpty = λ z. absurd (omega arith);
+          owed = owed-send p (ms ++ reply k (t.heir k) (suc (t.held k)) ∷ []) (handOver k (t.heir k) (t.held k)) (λ i. refl) (owed-send p ms (reply k (t.heir k) (suc (t.held k))) (λ i. refl)
+              (let l = fix-owed p o.owner o.ahead o.stage k o.ahead 2 (y .0) refl (sym (y .1)) (s .owed) in
+              record { failOwed = λ i a ne. l .failOwed i a (eqb-false i k (nk t k o.ahead o.known ms w c1 i a)); inquireOwed = λ u. absurd (omega arith); ascending = ascending-update p t.inquired k 0 ms (omega arith) (s .owed .ascending) }));
         },
       )))
       (λ e. rw e (
         o,
         record {
           core = leave-stranger t o k ms w e c;
-          mild = milder;
-          idle = s .idle;
-          live = record {
-            owed = s .live .owed;
-            asc = asc-upd p t.inq k 0 ms (omega arith) (s .live .asc);
-            asked = λ u v x d. rw (upd-other t.inq k 0 o.own (λ z. let y = c .asks .known o.own d .0 in let a : t.mode o.own ≡ 2 = rw z w in omega arith)) (s .live .asked u v x d);
+          inquiriesFit = fits-still;
+          freeQueueEmpty = s .freeQueueEmpty;
+          owed = record {
+            failOwed = s .owed .failOwed;
+            ascending = ascending-update p t.inquired k 0 ms (omega arith) (s .owed .ascending);
+            inquireOwed = λ u v x d. rw (update-other t.inquired k 0 o.owner (λ z. let y = c .asks .knownWaits o.owner d .0 in let a : t.mode o.owner ≡ 2 = rw z w in omega arith)) (s .owed .inquireOwed u v x d);
           };
         },
       ))
     where
-      milder : (i : ℕ) → Mild p t.failed ((left t k) .held) ((left t k) .inq) i
-      milder i = mild-left t k i (s .mild i)
+      fits-still : (i : ℕ) → InquiryFits (departed t k) i
+      fits-still i = inquiriesFit-left t k i (s .inquiriesFit i)

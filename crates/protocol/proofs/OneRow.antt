@@ -1,0 +1,153 @@
+use Prim.Native.Nat.{ℕ, suc}
+use mathlib.Core.Path.{_≡_, refl}
+use mathlib.Core.Logic.{_≢_}
+use mathlib.Core.Bool.{Bool, true, false, not, _&&_, cond}
+use mathlib.Core.List.{List, [], _++_, append-assoc, append-nil}
+use lib.Dec.{eqb}
+use borrow.Author.Tests.{ne-eqb}
+use Rattle.protocol.specs.Helpers.{update}
+use Rattle.protocol.specs.Message.{Message, request, reply, release, handOver, inquire, fail, yield, transfer}
+use Rattle.protocol.specs.Setting.{Setting}
+use Rattle.protocol.specs.Local.{Local, View, view, withArbiter, withQueued}
+use Rattle.protocol.specs.Arbiter.{fromHolder, headOf, beforeHolder, granted, grantedHead, failFormer, inquireOrFail, answers, queuedUp, onRequest, earlyRelease, onRelease, heirTakesOver, onHandOver, onYield}
+use Rattle.protocol.specs.Site.{yielded, entered, onInquire, onFail, onTransfer, onReply, handled}
+use Rattle.protocol.specs.Rig.{localOf, rowOf, sitesOf}
+use Rattle.protocol.proofs.Basics.{by-bool, and-split, update-marked}
+
+-- a handler appends, keeps the sites' mode, number and mark, and gives nobody the permission
+abbrev pub OneRow : (View → View) → Local → List Message → Type 0
+OneRow F t ms = (F (view t ms) ≡ view (localOf (sitesOf t) (rowOf ((F (view t [])) .tables))) (ms ++ (F (view t [])) .messages)) × ((k : ℕ) → t.held k ≡ 0 → (F (view t [])) .tables .held k ≡ 0)
+
+module _ (p : Setting) where
+  granted-row : (t : Local) (k n : ℕ) (ms : List Message) → OneRow (λ v. granted p v k n) t ms
+  unfolding granted
+  granted-row t k n ms = by-bool (eqb (headOf p (update t.queued k 0)) 0)
+      (λ e. rw e (refl, λ i h. h))
+      (λ e. rw e (rw append-assoc, λ i h. h))
+
+  grantedHead-row : (t : Local) (ms : List Message) → OneRow (λ v. grantedHead p v) t ms
+  unfolding grantedHead
+  grantedHead-row t ms = by-bool (eqb (headOf p t.queued) 0)
+      (λ e. rw e (rw append-nil, λ i h. h))
+      (λ e. rw e (granted-row t (headOf p t.queued) (t.queued (headOf p t.queued)) ms))
+
+  answers-row : (t : Local) (k former : ℕ) (ms : List Message) → OneRow (λ v. answers p v k former) t ms
+  unfolding answers failFormer inquireOrFail
+  answers-row t k former ms = by-bool (eqb (headOf p t.queued) k)
+      (λ h. by-bool (not (eqb former 0) && (not (eqb former k) && beforeHolder p t former))
+      (λ e. by-bool (beforeHolder p t k) (λ f. rw (h, e, f) (simp append-assoc, λ i z. z)) (λ f. rw (h, e, f) (simp append-assoc, λ i z. z)))
+      (λ e. by-bool (beforeHolder p t k) (λ f. rw (h, e, f) (simp append-assoc, λ i z. z)) (λ f. rw (h, e, f) (simp append-assoc, λ i z. z))))
+      (λ h. rw h (refl, λ i z. z))
+
+  onRequest-row : (t : Local) (k n : ℕ) (ms : List Message) → OneRow (λ v. onRequest p v k n) t ms
+  unfolding onRequest queuedUp
+  onRequest-row t k n ms = by-bool (eqb t.holder 0)
+      (λ e. rw e (granted-row t k n ms))
+      (λ e. rw e (answers-row (withQueued t k n) k (headOf p t.queued) ms))
+
+  onRelease-row : (t : Local) (k n : ℕ) (ms : List Message) → OneRow (λ v. onRelease p v k n) t ms
+  unfolding onRelease earlyRelease
+  onRelease-row t k n ms = by-bool (eqb n t.grant && eqb k t.holder)
+      (λ e. rw e (grantedHead-row (withArbiter t t.grant 0 0 t.queued) ms))
+      (λ e. by-bool (eqb n (suc t.grant) && not (eqb (t.queued k) 0))
+      (λ f. rw (e, f) (grantedHead-row (withArbiter t (suc t.grant) 0 0 (update t.queued k 0)) ms))
+      (λ f. rw (e, f) (rw append-nil, λ i h. h)))
+
+  heirTakesOver-row : (t : Local) (x : ℕ) (ms : List Message) → OneRow (λ v. heirTakesOver p v x) t ms
+  unfolding heirTakesOver
+  heirTakesOver-row t x ms = by-bool (eqb (headOf p (update t.queued x 0)) 0)
+      (λ e. rw e (rw append-nil, λ i h. h))
+      (λ e. by-bool (p .comesBefore (update t.queued x 0 (headOf p (update t.queued x 0))) (headOf p (update t.queued x 0)) (t.queued x) x)
+      (λ f. rw (e, f) (rw append-assoc, λ i h. h))
+      (λ f. rw (e, f) (refl, λ i h. h)))
+
+  onHandOver-row : (t : Local) (k x n : ℕ) (ms : List Message) → OneRow (λ v. onHandOver p v k x n) t ms
+  unfolding onHandOver
+  onHandOver-row t k x n ms = by-bool (fromHolder t k n)
+      (λ e. by-bool (eqb (t.queued x) 0)
+      (λ f. rw (e, f) (rw append-nil, λ i h. h))
+      (λ f. rw (e, f) (heirTakesOver-row t x ms)))
+      (λ e. rw e (rw append-nil, λ i h. h))
+
+  onYield-row : (t : Local) (k n : ℕ) (ms : List Message) → OneRow (λ v. onYield p v k n) t ms
+  unfolding onYield
+  onYield-row t k n ms = by-bool (eqb n t.grant && eqb k t.holder)
+      (λ e. rw e (grantedHead-row (withArbiter t t.grant 0 0 (update t.queued k t.holderSeq)) ms))
+      (λ e. rw e (rw append-nil, λ i h. h))
+
+  onTransfer-row : (t : Local) (b x n : ℕ) (ms : List Message) → OneRow (λ v. onTransfer v b x n) t ms
+  unfolding onTransfer
+  onTransfer-row t b x n ms = by-bool (eqb n (t.held b))
+      (λ e. rw e (rw append-nil, λ i h. h))
+      (λ e. rw e (rw append-nil, λ i h. h))
+
+  less : (t : Local) (b k : ℕ) → t.held k ≡ 0 → update t.held b 0 k ≡ 0
+  unfolding update
+  less t b k h = by-bool (eqb k b) (λ e. rw e) (λ e. rw e h)
+
+  onInquire-row : (t : Local) (b n : ℕ) (ms : List Message) → OneRow (λ v. onInquire v b n) t ms
+  unfolding onInquire yielded
+  onInquire-row t b n ms = by-bool (eqb (t.mode b) 1)
+      (λ e. by-bool (eqb (t.held b) 0)
+      (λ f. rw (e, f) (rw append-nil, λ i h. h))
+      (λ f. by-bool (eqb n (t.held b))
+      (λ g. by-bool (t.failed b)
+      (λ h. rw (e, f, g, h) (rw (update-marked t.failed b h), λ i z. less t b i z))
+      (λ h. rw (e, f, g, h) (rw append-nil, λ i h. h)))
+      (λ g. rw (e, f, g) (rw append-nil, λ i h. h))))
+      (λ e. rw e (rw append-nil, λ i h. h))
+
+  pub onFail-row : (t : Local) (b : ℕ) (ms : List Message)
+      → (onFail (view t ms) b ≡ view (localOf (record { mode = t.mode; seq = t.seq; failed = cond (eqb (t.mode b) 1) (update t.failed b true) t.failed }) (rowOf ((onFail (view t []) b) .tables))) (ms ++ (onFail (view t []) b) .messages))
+      × ((k : ℕ) → t.held k ≡ 0 → (onFail (view t []) b) .tables .held k ≡ 0)
+  unfolding onFail yielded
+  onFail-row t b ms = by-bool (eqb (t.mode b) 1)
+      (λ e. by-bool (not (eqb (t.held b) 0) && not (eqb (t.inquired b) 0))
+      (λ f. rw (e, f) (refl, λ i z. less t b i z))
+      (λ f. rw (e, f) (rw append-nil, λ i h. h)))
+      (λ e. rw e (rw append-nil, λ i h. h))
+
+  pub onReply-row : (t : Local) (b n : ℕ) (ent : Bool) (ms : List Message)
+      → onReply p (view t ms) b n ent ≡ view (localOf (cond ((eqb (t.mode b) 1 && (p .member b && eqb (t.held b) 0)) && ent)
+      (record { mode = update t.mode b 2; seq = update t.seq b 0; failed = update t.failed b false }) (sitesOf t)) (rowOf ((onReply p (view t []) b n ent) .tables))) (ms ++ (onReply p (view t []) b n ent) .messages)
+  unfolding onReply yielded entered
+  onReply-row t b n ent ms = by-bool (eqb (t.mode b) 1 && (p .member b && eqb (t.held b) 0))
+      (λ e. by-bool ent
+      (λ f. rw (e, f) (rw append-nil))
+      (λ f. by-bool (t.failed b && not (eqb (update t.inquired b (cond (eqb (t.inquired b) n) n 0) b) 0))
+      (λ g. rw (e, f, g) (rw (update-marked t.failed b (and-split (t.failed b) (not (eqb (update t.inquired b (cond (eqb (t.inquired b) n) n 0) b) 0)) g .0))))
+      (λ g. rw (e, f, g) (rw append-nil))))
+      (λ e. rw e (rw append-nil))
+
+  -- a reply changes what b holds, and nobody else
+  pub reply-held : (t : Local) (b n : ℕ) (ent : Bool) (k : ℕ) → k ≢ b → t.held k ≡ 0 → (onReply p (view t []) b n ent) .tables .held k ≡ 0
+  unfolding onReply yielded entered update
+  reply-held t b n ent k ne h = by-bool (eqb (t.mode b) 1 && (p .member b && eqb (t.held b) 0))
+      (λ e. by-bool ent
+      (λ f. rw (e, f, ne-eqb k b ne) h)
+      (λ f. by-bool (t.failed b && not (eqb (cond (eqb b b) (cond (eqb (t.inquired b) n) n 0) (t.inquired b)) 0))
+      (λ g. rw (e, f, g, ne-eqb k b ne) h)
+      (λ g. rw (e, f, g, ne-eqb k b ne) h)))
+      (λ e. rw e h)
+
+  -- the simple messages: neither reply nor fail
+  unfoldable pub Simple : Message → Type 0
+  Simple (request k n) = Unit {0}
+  Simple (reply f k n) = ⊥
+  Simple (release k n) = Unit {0}
+  Simple (handOver k x n) = Unit {0}
+  Simple (inquire k n) = Unit {0}
+  Simple (fail k) = ⊥
+  Simple (yield k n) = Unit {0}
+  Simple (transfer k x n) = Unit {0}
+
+  pub handled-row : (t : Local) (m : Message) (ms : List Message) → Simple m → OneRow (λ v. handled p v false m) t ms
+  unfolding handled Simple
+  handled-row t (request k n) ms u = onRequest-row t k n ms
+  handled-row t (reply f k n) ms u = absurd u
+  handled-row t (release k n) ms u = onRelease-row t k n ms
+  handled-row t (handOver k x n) ms u = onHandOver-row t k x n ms
+  handled-row t (inquire k n) ms u = onInquire-row t k n ms
+  handled-row t (fail k) ms u = absurd u
+  handled-row t (yield k n) ms u = onYield-row t k n ms
+  handled-row t (transfer k x n) ms u = onTransfer-row t k x n ms

@@ -1,0 +1,54 @@
+-- The invariant of the whole rig: that of every arbiter, and what only the rig as a whole can say. It gives the clauses of every
+-- arbiter, and so what a message that is taken off finds.
+use Prim.Native.Nat.{ℕ, _≤_}
+use mathlib.Core.Path.{_≡_}
+use mathlib.Core.Logic.{_≢_}
+use mathlib.Core.Bool.{true, false}
+use mathlib.Core.Option.{some}
+use lib.Dec.{eqb}
+use borrow.Author.Tests.{eqb-true, eqb-false}
+use Rattle.protocol.specs.Helpers.{first}
+use Rattle.protocol.specs.Message.{Message, between}
+use Rattle.protocol.specs.Local.{REST, WAITING, INSIDE}
+use Rattle.protocol.specs.System.{System, Lawful, settingOf}
+use Rattle.protocol.specs.Rig.{Rig, messagesOf, sent, channel}
+use Rattle.protocol.proofs.Basics.{by-bool}
+use Rattle.protocol.proofs.Lists.{All, all-without}
+use Rattle.protocol.proofs.Invariant.{Invariant}
+use Rattle.protocol.proofs.Seen.{viewOf, law-of}
+use Rattle.protocol.proofs.Clauses.{FitsTables, Clauses}
+use Rattle.protocol.proofs.ClausesHold.{clauses-hold}
+use Rattle.protocol.proofs.RigMessages.{first-messages}
+
+module _ (y : System) where
+  pub record RigInvariant (r : Rig) : Type 0 where
+    -- the invariant of each arbiter
+    pub arbiters : (j : ℕ) → Invariant (settingOf y j) (viewOf r j)
+    -- a site that is not at rest is one of the sites 1 to N
+    pub inRange : (k : ℕ) → r.sites.mode k ≢ REST → (1 ≤ k) × (k ≤ y.size)
+    -- a site is at rest, waiting or inside
+    pub modeRange : (k : ℕ) → r.sites.mode k ≤ INSIDE
+    -- all past N is 0
+    pub clockInRange : (k : ℕ) → r.clock k ≢ 0 → (1 ≤ k) × (k ≤ y.size)
+    -- S3: a waiting site does not hold all its members
+    pub lacksOne : (k : ℕ) → r.sites.mode k ≡ WAITING → (j : ℕ) × (y.sets k j ≡ true) × ((r.rows j) .held k ≡ 0)
+
+module _ (y : System) (lw : Lawful y) where
+  -- the clauses of each arbiter
+  pub clauses-at : (r : Rig) → RigInvariant y r → (j : ℕ) → Clauses (settingOf y j) (viewOf r j)
+  clauses-at r w j = clauses-hold (settingOf y j) (law-of y lw j) (viewOf r j) (w .arbiters j)
+
+  -- the message that is taken off fits: a reply finds its site waiting with the member not held, a plain release or a yield is the
+  -- permission, and is not stray
+  pub first-fits : (r : Rig) (a b j : ℕ) (m : Message) → first (channel a b) r.underWay ≡ some (sent j m) → RigInvariant y r → FitsTables (settingOf y j) (viewOf r j) m
+  unfolding All
+  first-fits r a b j m e w = all-without (between j a b) (FitsTables (settingOf y j) (viewOf r j)) (messagesOf j r.underWay) m (first-messages a b r.underWay (sent j m) e) (clauses-at r w j .T) .0
+
+  -- an arbiter that is in no set is held by nobody
+  pub held-range : (r : Rig) (i b : ℕ) → RigInvariant y r → ((1 ≤ i) → i ≤ y.size → ⊥) → (r.rows i) .held b ≡ 0
+  held-range r i b w h = by-bool (eqb ((r.rows i) .held b) 0) (λ e. eqb-true ((r.rows i) .held b) 0 e)
+      (λ e. let m = clauses-at r w i .T2 b (eqb-false ((r.rows i) .held b) 0 e) .1 in
+      let z = lw .memberInRange b i m in absurd (h (z .0) (z .1)))
+
+  pub stranger : (s j : ℕ) → ((1 ≤ j) → j ≤ y.size → ⊥) → y.sets s j ≡ false
+  stranger s j h = by-bool (y.sets s j) (λ e. let w = lw .memberInRange s j e in absurd (h (w .0) (w .1))) (λ e. e)

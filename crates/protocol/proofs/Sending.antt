@@ -1,0 +1,109 @@
+use Prim.Native.Nat.{ℕ, _≤_}
+use mathlib.Core.Path.{_≡_, refl, sym, _∙_}
+use mathlib.Core.Logic.{_≢_}
+use mathlib.Core.Bool.{Bool, true, false}
+use mathlib.Core.List.{List, [], _∷_, _++_}
+use mathlib.Core.Option.{some}
+use native.Mathlib.Omega.{arith}
+use lib.Dec.{eqb}
+use borrow.Author.Tests.{eqb-true, eq-eqb}
+use Rattle.protocol.specs.Helpers.{tally, first, withoutFirst}
+use Rattle.protocol.specs.Message.{Message, request, reply, release, handOver, inquire, fail, yield, transfer, between}
+use Rattle.protocol.specs.Setting.{Setting}
+use Rattle.protocol.specs.Rig.{requests}
+use Rattle.protocol.proofs.Basics.{by-bool, clash, and-split}
+use Rattle.protocol.proofs.Lists.{tally-cons, tally-snoc, tally-snoc-no, all-snoc, first-holds, tally-without, all-without}
+use Rattle.protocol.proofs.Invariant.{carriesPermission, isRequestOf, isReturnOf, isHandOver, Ordered, Situation, Fits, UnderWay}
+
+pub no {ℓ} : {C : Type ℓ} → true ≡ false → C
+no e = clash true refl e
+
+pub ordered-snoc : (ms : List Message) (m : Message) → ((i : ℕ) → isReturnOf i m ≡ true → tally (isRequestOf i) ms ≡ 0) → Ordered ms → Ordered (ms ++ m ∷ [])
+unfolding Ordered tally
+ordered-snoc [] m h o = (λ i e. refl, tt)
+ordered-snoc (x ∷ ms) m h o = (
+  λ i e. let old = o .0 i e in
+      rw (tally-snoc (isReturnOf i) ms m) (by-bool (isReturnOf i m)
+      (λ t. let z = rw e at (h i t) in absurd (omega arith))
+      (λ t. rw t (omega arith))),
+  ordered-snoc ms m (λ i e. by-bool (isRequestOf i x) (λ t. let z = rw t at (h i e) in absurd (omega arith)) (λ t. rw t at (h i e))) (o .1),
+)
+
+pub ordered-without : (p : Message → Bool) (ms : List Message) (m : Message) → first p ms ≡ some m → Ordered ms → Ordered (withoutFirst p ms)
+unfolding Ordered first withoutFirst tally
+ordered-without p [] m e o = tt
+ordered-without p (x ∷ ms) m e o =
+    by-bool (p x)
+    (λ t. rw t (o .1))
+    (λ t. let e′ = rw t at e in
+    rw t (
+      λ i r. let z = o .0 i r in let y = tally-without p (isReturnOf i) ms m e′ in
+          let w = tally-cons (isReturnOf i) m (withoutFirst p ms) in omega arith,
+      ordered-without p ms m e′ (o .1),
+    ))
+
+request-from : (j a b i : ℕ) (m : Message) → isRequestOf i m ≡ true → between j a b m ≡ true → (a ≡ i) × (b ≡ j)
+request-from j a b i (request k n) r e = let w = and-split (eqb a k) (eqb b j) e in (eqb-true a k (w .0) ∙ sym (eqb-true i k r), eqb-true b j (w .1))
+request-from j a b i (reply f k n) r e = clash false r refl
+request-from j a b i (release k n) r e = clash false r refl
+request-from j a b i (handOver k x n) r e = clash false r refl
+request-from j a b i (inquire k n) r e = clash false r refl
+request-from j a b i (fail k) r e = clash false r refl
+request-from j a b i (yield k n) r e = clash false r refl
+request-from j a b i (transfer k x n) r e = clash false r refl
+
+return-from : (j i : ℕ) (m : Message) → isReturnOf i m ≡ true → between j i j m ≡ true
+return-from j i (request k n) r = clash false r refl
+return-from j i (reply f k n) r = clash false r refl
+return-from j i (release k n) r = rw (r, eq-eqb j j refl)
+return-from j i (handOver k x n) r = rw (r, eq-eqb j j refl)
+return-from j i (inquire k n) r = clash false r refl
+return-from j i (fail k) r = clash false r refl
+return-from j i (yield k n) r = rw (r, eq-eqb j j refl)
+return-from j i (transfer k x n) r = clash false r refl
+
+pulled : (j a b : ℕ) (ms : List Message) (m : Message) → first (between j a b) ms ≡ some m → Ordered ms → (i : ℕ) → isRequestOf i m ≡ true → tally (isReturnOf i) (withoutFirst (between j a b) ms) ≡ 0
+unfolding Ordered first withoutFirst tally
+pulled j a b [] m e o i r = refl
+pulled j a b (y ∷ ms) m e o i r =
+    by-bool (between j a b y)
+    (λ t. let w : y ≡ m = cc in rw t (o .0 i (rw w r)))
+    (λ t. let e′ = rw t at e in
+    let ih = pulled j a b ms m e′ (o .1) i r in
+    let c = request-from j a b i m r (first-holds (between j a b) ms m e′) in
+    let nb : isReturnOf i y ≡ false = by-bool (isReturnOf i y) (λ u. clash (between j a b y) (rw (c .0, c .1) (return-from j i y u)) t) (λ u. u) in
+    rw (t, nb) ih)
+
+module _ (p : Setting) where
+  pub pull : {s : Situation} {known : ℕ → ℕ} (ms : List Message) (a b : ℕ) (m : Message) → first (between (p .arbiter) a b) ms ≡ some m → UnderWay p s known ms → UnderWay p s known (m ∷ withoutFirst (between (p .arbiter) a b) ms)
+  unfolding Ordered
+  pull {s} ms a b m e x = record {
+    permissions = rw (tally-without (between (p .arbiter) a b) carriesPermission ms m e) (x .permissions);
+    requests = λ k u w. rw (tally-without (between (p .arbiter) a b) (isRequestOf k) ms m e) (x .requests k u w);
+    handOvers = λ u. rw (tally-without (between (p .arbiter) a b) (isHandOver s.holder s.owner s.grant) ms m e) (x .handOvers u);
+    fit = all-without (between (p .arbiter) a b) _ ms m e (x .fit);
+    ordered = (pulled (p .arbiter) a b ms m e (x .ordered), ordered-without (between (p .arbiter) a b) ms m e (x .ordered));
+  }
+
+  -- one more message that carries nothing
+  pub send-quiet : {s : Situation} {known : ℕ → ℕ} (ms : List Message) (m : Message) → carriesPermission m ≡ false → ((i : ℕ) → isRequestOf i m ≡ false) → ((i : ℕ) → isReturnOf i m ≡ false)
+      → Fits p s m → UnderWay p s known ms → UnderWay p s known (ms ++ m ∷ [])
+  send-quiet {s} ms m nt nr nb k x = record {
+    permissions = rw (tally-snoc-no carriesPermission ms m nt) (x .permissions);
+    requests = λ i u w. rw (tally-snoc-no (isRequestOf i) ms m (nr i)) (x .requests i u w);
+    handOvers = λ u. let z = x .handOvers u in let w = tally-snoc (isHandOver s.holder s.owner s.grant) ms m in omega arith;
+    fit = all-snoc _ ms m (x .fit) k;
+    ordered = ordered-snoc ms m (λ i e. clash (isReturnOf i m) e (nb i)) (x .ordered);
+  }
+
+  pub send-fail : {s : Situation} {known : ℕ → ℕ} (ms : List Message) (k : ℕ) → p .member k ≡ true → UnderWay p s known ms → UnderWay p s known (ms ++ fail k ∷ [])
+  unfolding Fits
+  send-fail ms k h x = send-quiet ms (fail k) refl (λ i. refl) (λ i. refl) h x
+
+  pub send-inquire : {s : Situation} {known : ℕ → ℕ} (ms : List Message) (k n : ℕ) → 1 ≤ n → n ≤ s.grant → p .member k ≡ true → UnderWay p s known ms → UnderWay p s known (ms ++ inquire k n ∷ [])
+  unfolding Fits
+  send-inquire ms k n a b h x = send-quiet ms (inquire k n) refl (λ i. refl) (λ i. refl) (a, b, h) x
+
+  pub send-transfer : {s : Situation} {known : ℕ → ℕ} (ms : List Message) (k y n : ℕ) → 1 ≤ n → n ≤ s.grant → k ≡ s.holder → s.queued y ≢ 0 → p .member k ≡ true → p .member y ≡ true → UnderWay p s known ms → UnderWay p s known (ms ++ transfer k y n ∷ [])
+  unfolding Fits
+  send-transfer ms k y n a b c d h i x = send-quiet ms (transfer k y n) refl (λ i. refl) (λ i. refl) (a, b, λ u w. (c, d), h, i) x
