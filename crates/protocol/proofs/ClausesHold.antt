@@ -10,11 +10,11 @@ use borrow.Author.Tests.{eqb-true, eqb-false, eq-eqb, ne-eqb}
 use Rattle.protocol.specs.Helpers.{count, tally}
 use Rattle.protocol.specs.Message.{Message, request, reply, release, handOver, inquire, fail, yield, transfer, REPLY, RELEASE, HANDOVER, kind, isOut, isBack}
 use Rattle.protocol.specs.Setting.{Setting, SettingLaw}
-use Rattle.protocol.specs.Local.{Local, View, view}
+use Rattle.protocol.specs.Local.{REST, WAITING, INSIDE, Local, View, view}
 use Rattle.protocol.specs.Arbiter.{headOf}
 use Rattle.protocol.proofs.Basics.{by-bool, and-split, count-none, count-one}
 use Rattle.protocol.proofs.Lists.{all-map, all-some, all-none}
-use Rattle.protocol.proofs.Invariant.{Ghost, siteOf, numberOf, heirOf, carriesPermission, isRequestOf, isHandOver, isFailTo, isInquire, Situation, situation, Fits, Core, InvariantWith, Invariant}
+use Rattle.protocol.proofs.Invariant.{Ghost, FREE, OUT, HELD, YIELDED, RELEASED, siteOf, numberOf, heirOf, carriesPermission, isRequestOf, isHandOver, isFailTo, isInquire, Situation, situation, Fits, Core, InvariantWith, Invariant}
 use Rattle.protocol.proofs.Fitting.{fits-permission, permission-replied, permission-released, fits-handOver, no-request}
 use Rattle.protocol.proofs.Kept.Granted.{queued-member}
 use Rattle.protocol.proofs.Kept.Request.{tally-mono}
@@ -53,7 +53,7 @@ split-permission (m ∷ ms) =
 module _ (p : Setting) (law : SettingLaw p) where
   module _ (s : Situation) where
     -- a reply, or a release without heir, of that number is the permission
-    reply-own : (k n : ℕ) (m : Message) → Fits p s m → isReply k n m ≡ true → (k ≡ s.owner) × (n ≡ s.grant + s.ahead) × (s.stage ≡ 1)
+    reply-own : (k n : ℕ) (m : Message) → Fits p s m → isReply k n m ≡ true → (k ≡ s.owner) × (n ≡ s.grant + s.ahead) × (s.stage ≡ OUT)
     reply-own k n m a e =
         let w = and-split (eqb (kind m) REPLY) (eqb k (siteOf m) && eqb n (numberOf m)) e in
         let v = and-split (eqb k (siteOf m)) (eqb n (numberOf m)) (w .1) in
@@ -61,7 +61,7 @@ module _ (p : Setting) (law : SettingLaw p) where
         let f = fits-permission p s m a (rw c) in
         (eqb-true k (siteOf m) (v .0) ∙ f .0, eqb-true n (numberOf m) (v .1) ∙ f .1, rw c at (f .2))
 
-    release-own : (k n : ℕ) (m : Message) → Fits p s m → isRelease k n m ≡ true → (k ≡ s.owner) × (s.stage ≡ 4)
+    release-own : (k n : ℕ) (m : Message) → Fits p s m → isRelease k n m ≡ true → (k ≡ s.owner) × (s.stage ≡ RELEASED)
     release-own k n m a e =
         let w = and-split (eqb (kind m) RELEASE) (eqb k (siteOf m) && eqb n (numberOf m)) e in
         let v = and-split (eqb k (siteOf m)) (eqb n (numberOf m)) (w .1) in
@@ -70,11 +70,11 @@ module _ (p : Setting) (law : SettingLaw p) where
         (eqb-true k (siteOf m) (v .0) ∙ f .0, rw c at (f .2))
 
     -- no release of k without heir
-    no-release : (k n : ℕ) → (k ≡ s.owner → s.stage ≢ 4) → (m : Message) → Fits p s m → isRelease k n m ≡ false
+    no-release : (k n : ℕ) → (k ≡ s.owner → s.stage ≢ RELEASED) → (m : Message) → Fits p s m → isRelease k n m ≡ false
     no-release k n h m a = by-bool (isRelease k n m) (λ e. let w = release-own k n m a e in absurd (h (w .0) (w .1))) (λ e. e)
 
     -- no release of k with the grant number
-    no-any-release : (k : ℕ) → s.stage ≢ 4 → s.ahead ≡ 0 → (m : Message) → Fits p s m → isAnyRelease k s.grant m ≡ false
+    no-any-release : (k : ℕ) → s.stage ≢ RELEASED → s.ahead ≡ 0 → (m : Message) → Fits p s m → isAnyRelease k s.grant m ≡ false
     no-any-release k s4 d0 m a = by-bool (isAnyRelease k s.grant m)
         (λ e. let w = and-split (eqb (kind m) RELEASE || eqb (kind m) HANDOVER) (eqb k (siteOf m) && eqb s.grant (numberOf m)) e in
         let v = and-split (eqb k (siteOf m)) (eqb s.grant (numberOf m)) (w .1) in
@@ -98,18 +98,18 @@ module _ (p : Setting) (law : SettingLaw p) where
     unfolding v
     overdue z = (λ y. let w = c .arbiter .handedOver z .1 in omega arith, c .underWay .handOvers z)
 
-    holder-zero : t.holder ≡ 0 → o.stage ≡ 0
-    holder-zero h = by-bool (eqb o.stage 0) (λ e. eqb-true o.stage 0 e) (λ e. let y = law .siteInRange t.holder (c .arbiter .whenTaken (eqb-false o.stage 0 e) .1) in absurd (omega arith))
+    holder-zero : t.holder ≡ 0 → o.stage ≡ FREE
+    holder-zero h = by-bool (eqb o.stage FREE) (λ e. eqb-true o.stage FREE e) (λ e. let y = law .siteInRange t.holder (c .arbiter .whenTaken (eqb-false o.stage FREE e) .1) in absurd (omega arith))
 
-    zero-holder : o.stage ≡ 0 → t.holder ≡ 0
+    zero-holder : o.stage ≡ FREE → t.holder ≡ 0
     zero-holder z = let f = c .arbiter .whenFree z in sym (c .arbiter .ownerIsHolder (f .1)) ∙ f .0
 
-    flying : o.stage ≡ 1 → 0 < tally (isReply o.owner (t.grant + o.ahead)) ms
+    flying : o.stage ≡ OUT → 0 < tally (isReply o.owner (t.grant + o.ahead)) ms
     flying z =
         let tk : tally carriesPermission ms ≡ 1 = rw z at (c .underWay .permissions) in
         let le = tally-mono _ carriesPermission (isReply o.owner (t.grant + o.ahead)) ms (c .underWay .fit) (λ m a e. permission-replied p (situation t o.owner o.ahead o.stage) m a z e) in omega arith
 
-    released-back : o.stage ≡ 4 → 0 < tally (isRelease o.owner (t.grant + o.ahead)) ms
+    released-back : o.stage ≡ RELEASED → 0 < tally (isRelease o.owner (t.grant + o.ahead)) ms
     released-back z =
         let tk : tally carriesPermission ms ≡ 1 = rw z at (c .underWay .permissions) in
         let le = tally-mono _ carriesPermission (isRelease o.owner (t.grant + o.ahead)) ms (c .underWay .fit) (λ m a e. permission-released p (situation t o.owner o.ahead o.stage) m a z e) in omega arith
@@ -119,18 +119,18 @@ module _ (p : Setting) (law : SettingLaw p) where
     has-token d1 =
         let gd : t.grant + o.ahead ≡ suc t.grant = omega arith in
         let le = c .arbiter .stageRange in
-        by-bool (eqb o.stage 0) (λ e. let y = c .arbiter .whenFree (eqb-true o.stage 0 e) .1 in absurd (omega arith))
-        (λ e0. by-bool (eqb o.stage 1) (λ e. inl (rw gd at (flying (eqb-true o.stage 1 e))))
-        (λ e1. by-bool (eqb o.stage 2) (λ e. inr (inl (c .column .number (eqb-true o.stage 2 e) ∙ gd)))
-        (λ e2. by-bool (eqb o.stage 3) (λ e. let y = c .asks .yieldedFailed (eqb-true o.stage 3 e) .2 in absurd (omega arith))
-        (λ e3. let a0 = eqb-false o.stage 0 e0 in let a1 = eqb-false o.stage 1 e1 in let a2 = eqb-false o.stage 2 e2 in let a3 = eqb-false o.stage 3 e3 in
+        by-bool (eqb o.stage FREE) (λ e. let y = c .arbiter .whenFree (eqb-true o.stage FREE e) .1 in absurd (omega arith))
+        (λ e0. by-bool (eqb o.stage OUT) (λ e. inl (rw gd at (flying (eqb-true o.stage OUT e))))
+        (λ e1. by-bool (eqb o.stage HELD) (λ e. inr (inl (c .column .number (eqb-true o.stage HELD e) ∙ gd)))
+        (λ e2. by-bool (eqb o.stage YIELDED) (λ e. let y = c .asks .yieldedFailed (eqb-true o.stage YIELDED e) .2 in absurd (omega arith))
+        (λ e3. let a0 = eqb-false o.stage FREE e0 in let a1 = eqb-false o.stage OUT e1 in let a2 = eqb-false o.stage HELD e2 in let a3 = eqb-false o.stage YIELDED e3 in
         inr (inr (rw gd at (released-back (omega arith))))))))
 
     fits : (m : Message) → Fits p (situation t o.owner o.ahead o.stage) m → FitsTables p v m
     unfolding Fits FitsTables v
     fits (request k n) a = (a .0, a .1, let w = c .asks .waitingNumbered k (a .0) in let y = a .1 in omega arith, a .2)
     fits (reply f k n) a =
-        let s0 : o.stage ≢ 0 = (λ z. let y = a .2 in omega arith) in
+        let s0 : o.stage ≢ FREE = (λ z. let y = a .2 in omega arith) in
         let busy = c .arbiter .whenTaken s0 in
         let kk = c .asks .outKnown (a .2) in
         let w = c .asks .knownWaits o.owner kk in
@@ -148,7 +148,7 @@ module _ (p : Setting) (law : SettingLaw p) where
           by-bool (eqb (t.held o.owner) 0) (λ e. eqb-true (t.held o.owner) 0 e) (λ e. let y = c .column .holds o.owner (eqb-false (t.held o.owner) 0 e) .1 in let z = a .2 in absurd (omega arith)),
         )
     fits (release k n) a =
-        let s0 : o.stage ≢ 0 = (λ z. let y = a .2 in omega arith) in
+        let s0 : o.stage ≢ FREE = (λ z. let y = a .2 in omega arith) in
         let busy = c .arbiter .whenTaken s0 in
         let nn = a .1 in
         rw (a .0) (
@@ -180,48 +180,48 @@ module _ (p : Setting) (law : SettingLaw p) where
     one-place =
         let tk = c .underWay .permissions in
         let sp = split-permission ms in
-        let not-held : (k : ℕ) → (k ≡ o.owner → o.stage ≢ 2) → not (eqb (t.held k) 0) ≡ false = λ k f. by-bool (eqb (t.held k) 0) (λ e. rw e) (λ e. let y = c .column .holds k (eqb-false (t.held k) 0 e) in absurd (f (y .0) (y .1))) in
-        by-bool (eqb o.stage 0)
-        (λ e. let z = eqb-true o.stage 0 e in let u = rw z at tk in
+        let not-held : (k : ℕ) → (k ≡ o.owner → o.stage ≢ HELD) → not (eqb (t.held k) 0) ≡ false = λ k f. by-bool (eqb (t.held k) 0) (λ e. rw e) (λ e. let y = c .column .holds k (eqb-false (t.held k) 0 e) in absurd (f (y .0) (y .1))) in
+        by-bool (eqb o.stage FREE)
+        (λ e. let z = eqb-true o.stage FREE e in let u = rw z at tk in
         let h = count-none (λ k. not (eqb (t.held k) 0)) (p .size) (λ k. not-held k (λ x y. omega arith)) in
         rw (eq-eqb t.holder 0 (zero-holder z)) (omega arith))
-        (λ e0. let busy = c .arbiter .whenTaken (eqb-false o.stage 0 e0) in
+        (λ e0. let busy = c .arbiter .whenTaken (eqb-false o.stage FREE e0) in
         let hr = law .siteInRange t.holder (busy .1) in
         rw (ne-eqb t.holder 0 (λ z. omega arith))
-        (by-bool (eqb o.stage 2)
-        (λ e. let z = eqb-true o.stage 2 e in let u = rw z at tk in
+        (by-bool (eqb o.stage HELD)
+        (λ e. let z = eqb-true o.stage HELD e in let u = rw z at tk in
         let own = law .siteInRange o.owner (busy .0) in
         let nu = c .column .number z in
         let h = count-one (λ k. not (eqb (t.held k) 0)) o.owner (p .size) (own .0) (rw (ne-eqb (t.held o.owner) 0 (λ y. let g1 = busy .3 in omega arith))) (λ k ne. not-held k (λ x. absurd (ne x))) (own .1) in
         omega arith)
-        (λ e. let h = count-none (λ k. not (eqb (t.held k) 0)) (p .size) (λ k. not-held k (λ x. eqb-false o.stage 2 e)) in
+        (λ e. let h = count-none (λ k. not (eqb (t.held k) 0)) (p .size) (λ k. not-held k (λ x. eqb-false o.stage HELD e)) in
         let u = rw (e0, e) at tk in omega arith)))
 
-    unknown : (k : ℕ) → t.mode k ≢ 1 → o.known k ≡ 0
+    unknown : (k : ℕ) → t.mode k ≢ WAITING → o.known k ≡ 0
     unknown k h = by-bool (eqb (o.known k) 0) (λ e. eqb-true (o.known k) 0 e) (λ e. absurd (h (c .asks .knownWaits k (eqb-false (o.known k) 0 e) .0)))
 
-    at-rest : (k : ℕ) → t.mode k ≡ 0 → (t.held k ≡ 0) × (t.heir k ≡ 0) × (t.inquired k ≡ 0)
+    at-rest : (k : ℕ) → t.mode k ≡ REST → (t.held k ≡ 0) × (t.heir k ≡ 0) × (t.inquired k ≡ 0)
     at-rest k m =
         let kz = unknown k (λ z. omega arith) in
-        let no-own : k ≡ o.owner → o.stage ≡ 2 → ⊥ = (λ e z. let w = c .asks .heldInside z (rw e at kz) in let u : t.mode k ≡ 2 = rw e w in omega arith) in (
+        let no-own : k ≡ o.owner → o.stage ≡ HELD → ⊥ = (λ e z. let w = c .asks .heldInside z (rw e at kz) in let u : t.mode k ≡ INSIDE = rw e w in omega arith) in (
           by-bool (eqb (t.held k) 0) (λ e. eqb-true (t.held k) 0 e) (λ e. let y = c .column .holds k (eqb-false (t.held k) 0 e) in absurd (no-own (y .0) (y .1))),
           by-bool (eqb (t.heir k) 0) (λ e. eqb-true (t.heir k) 0 e) (λ e. let y = c .column .heirs k (eqb-false (t.heir k) 0 e) in absurd (no-own (y .0) (y .1))),
           by-bool (eqb (t.inquired k) 0) (λ e. eqb-true (t.inquired k) 0 e) (λ e. let y = c .column .remembered k (eqb-false (t.inquired k) 0 e) .0 in absurd (omega arith)),
         )
 
-    inside-holds : (k : ℕ) → t.mode k ≡ 2 → p .member k ≡ true → t.held k ≢ 0
+    inside-holds : (k : ℕ) → t.mode k ≡ INSIDE → p .member k ≡ true → t.held k ≢ 0
     inside-holds k m e z =
         let y = c .asks .insideHolds k m e in
         let busy = c .arbiter .whenTaken (λ z. let w = y .1 in omega arith) .3 in
         let nu : t.held k ≡ t.grant + o.ahead = rw (y .0) (c .column .number (y .1)) in omega arith
 
-    holding : (k : ℕ) → t.held k ≢ 0 → (((k ≡ t.holder) × (t.held k ≡ t.grant) × (t.mode k ≡ 1 → t.holderSeq ≡ t.seq k))
-        ⊎ ((t.held k ≡ suc t.grant) × (t.queued k ≢ 0) × (t.mode k ≡ 1 → t.queued k ≡ t.seq k) × HandOverTo p v k)) × (p .member k ≡ true)
+    holding : (k : ℕ) → t.held k ≢ 0 → (((k ≡ t.holder) × (t.held k ≡ t.grant) × (t.mode k ≡ WAITING → t.holderSeq ≡ t.seq k))
+        ⊎ ((t.held k ≡ suc t.grant) × (t.queued k ≢ 0) × (t.mode k ≡ WAITING → t.queued k ≡ t.seq k) × HandOverTo p v k)) × (p .member k ≡ true)
     holding k h =
         let y = c .column .holds k h in
         let busy = c .arbiter .whenTaken (λ z. let w = y .1 in omega arith) in
         let nu = c .column .number (y .1) in
-        let kk : t.mode o.owner ≡ 1 → o.known o.owner ≢ 0 = (λ m z. let w = c .asks .heldInside (y .1) z in omega arith) in
+        let kk : t.mode o.owner ≡ WAITING → o.known o.owner ≢ 0 = (λ m z. let w = c .asks .heldInside (y .1) z in omega arith) in
         rw (y .0) (
           by-bool (eqb o.ahead 0)
               (λ e. let d0 = eqb-true o.ahead 0 e in inl (c .arbiter .ownerIsHolder d0, omega arith, λ m. c .asks .ownerEntry (kk m) .0 d0))
@@ -237,26 +237,26 @@ module _ (p : Setting) (law : SettingLaw p) where
         (y .0 ∙ c .arbiter .ownerIsHolder (y .2), omega arith, y .3)
 
     one-request : (k : ℕ) → tally (isRequestOf k) ms ≤ 1
-    one-request k = by-bool (eqb (t.mode k) 1)
+    one-request k = by-bool (eqb (t.mode k) WAITING)
         (λ e. by-bool (p .member k)
-        (λ m. let w = c .underWay .requests k (eqb-true (t.mode k) 1 e) m in omega arith)
+        (λ m. let w = c .underWay .requests k (eqb-true (t.mode k) WAITING e) m in omega arith)
         (λ m. let w = no-request p (situation t o.owner o.ahead o.stage) k ms (inr m) (c .underWay .fit) in omega arith))
-        (λ e. let w = no-request p (situation t o.owner o.ahead o.stage) k ms (inl (eqb-false (t.mode k) 1 e)) (c .underWay .fit) in omega arith)
+        (λ e. let w = no-request p (situation t o.owner o.ahead o.stage) k ms (inl (eqb-false (t.mode k) WAITING e)) (c .underWay .fit) in omega arith)
 
-    asked-is : (k : ℕ) → t.mode k ≡ 1 → p .member k ≡ true → tally (isRequestOf k) ms ≡ 0 → o.known k ≢ 0
+    asked-is : (k : ℕ) → t.mode k ≡ WAITING → p .member k ≡ true → tally (isRequestOf k) ms ≡ 0 → o.known k ≢ 0
     asked-is k m e z y = let w = c .underWay .requests k m e in omega arith
 
     holder-not : (k : ℕ) → o.known k ≢ 0 → k ≢ o.owner → t.holder ≢ k
     holder-not k kk ne z = let y = c .asks .queuedIfKnown k ne kk in let w = c .asks .waitingNumbered k (c .asks .knownWaits k kk .0) in let u : t.queued k ≡ 0 = rw z at (c .arbiter .holderNotQueued) in omega arith
 
-    asked-at : (k : ℕ) → t.mode k ≡ 1 → p .member k ≡ true → tally (isRequestOf k) ms ≡ 0
+    asked-at : (k : ℕ) → t.mode k ≡ WAITING → p .member k ≡ true → tally (isRequestOf k) ms ≡ 0
         → ((t.holder ≡ k) × (t.holderSeq ≡ t.seq k) × (t.queued k ≡ 0) × (tally (isAnyRelease k t.grant) ms ≡ 0)) ⊎ ((t.holder ≢ k) × (t.queued k ≡ t.seq k) × (tally (isRelease k (suc t.grant)) ms ≡ 0))
     asked-at k m e z =
         let kk = asked-is k m e z in
         by-bool (eqb k o.owner)
         (λ ko. let k1 = eqb-true k o.owner ko in
         let kw : o.known o.owner ≢ 0 = rw k1 at kk in
-        let s4 : o.stage ≢ 4 = (λ y. kw (c .asks .releasedLeft y .0)) in
+        let s4 : o.stage ≢ RELEASED = (λ y. kw (c .asks .releasedLeft y .0)) in
         by-bool (eqb o.ahead 0)
         (λ d. let d0 = eqb-true o.ahead 0 d in let ho = c .arbiter .ownerIsHolder d0 in
         inl (
@@ -278,18 +278,18 @@ module _ (p : Setting) (law : SettingLaw p) where
           all-none _ (isRelease k (suc t.grant)) ms (c .underWay .fit) (no-release (situation t o.owner o.ahead o.stage) k (suc t.grant) (λ y. absurd (ne y))),
         ))
 
-    unasked : (k : ℕ) → p .member k ≡ true → o.known k ≡ 0 → t.mode k ≢ 2 → (t.queued k ≢ 0 → 0 < tally (isRelease k (suc t.grant)) ms) × (t.holder ≡ k → 0 < tally (isAnyRelease k t.grant) ms)
+    unasked : (k : ℕ) → p .member k ≡ true → o.known k ≡ 0 → t.mode k ≢ INSIDE → (t.queued k ≢ 0 → 0 < tally (isRelease k (suc t.grant)) ms) × (t.holder ≡ k → 0 < tally (isAnyRelease k t.grant) ms)
     unasked k e kz m =
         by-bool (eqb k o.owner)
         (λ ko. let k1 = eqb-true k o.owner ko in
         let kw : o.known o.owner ≡ 0 = rw k1 at kz in
         let k0 = law .siteInRange k e .0 in
         let le = c .arbiter .stageRange in
-        let n0 : o.stage ≢ 0 = (λ y. let w = c .arbiter .whenFree y .0 in omega arith) in
-        let n1 : o.stage ≢ 1 = (λ y. c .asks .outKnown y kw) in
-        let n2 : o.stage ≢ 2 = (λ y. m (rw k1 (c .asks .heldInside y kw))) in
-        let n3 : o.stage ≢ 3 = (λ y. c .asks .yieldedFailed y .0 kw) in
-        let s4 : o.stage ≡ 4 = omega arith in
+        let n0 : o.stage ≢ FREE = (λ y. let w = c .arbiter .whenFree y .0 in omega arith) in
+        let n1 : o.stage ≢ OUT = (λ y. c .asks .outKnown y kw) in
+        let n2 : o.stage ≢ HELD = (λ y. m (rw k1 (c .asks .heldInside y kw))) in
+        let n3 : o.stage ≢ YIELDED = (λ y. c .asks .yieldedFailed y .0 kw) in
+        let s4 : o.stage ≡ RELEASED = omega arith in
         let re = released-back s4 in
         rw k1 (by-bool (eqb o.ahead 0)
         (λ d. let d0 = eqb-true o.ahead 0 d in let gd : t.grant + o.ahead ≡ t.grant = omega arith in (
@@ -306,7 +306,7 @@ module _ (p : Setting) (law : SettingLaw p) where
               rw (← y) (omega arith)),
         ))
 
-    owing : (k : ℕ) → t.mode k ≡ 1 → p .member k ≡ true → tally (isRequestOf k) ms ≡ 0 → t.holder ≢ k → tally (isReplyTo k) ms ≡ 0 → t.held k ≡ 0
+    owing : (k : ℕ) → t.mode k ≡ WAITING → p .member k ≡ true → tally (isRequestOf k) ms ≡ 0 → t.holder ≢ k → tally (isReplyTo k) ms ≡ 0 → t.held k ≡ 0
         → t.failed k ≡ false → tally (isFailTo k) ms ≡ 0 → (headOf p t.queued ≡ k) × (p .comesBefore (t.queued k) k t.holderSeq t.holder ≡ true)
     owing k m e z nh nr h0 f nf =
         let kk = asked-is k m e z in
@@ -315,20 +315,20 @@ module _ (p : Setting) (law : SettingLaw p) where
         let k0 = law .siteInRange k e .0 in
         let le = c .arbiter .stageRange in
         let ho : t.held o.owner ≡ 0 = rw k1 at h0 in
-        let n0 : o.stage ≢ 0 = (λ y. let w = c .arbiter .whenFree y .0 in omega arith) in
+        let n0 : o.stage ≢ FREE = (λ y. let w = c .arbiter .whenFree y .0 in omega arith) in
         let g1 = c .arbiter .whenTaken n0 .3 in
-        let n1 : o.stage ≢ 1 = (λ y. let w = flying y in let nr1 : tally (isReplyTo o.owner) ms ≡ 0 = rw k1 at nr in
+        let n1 : o.stage ≢ OUT = (λ y. let w = flying y in let nr1 : tally (isReplyTo o.owner) ms ≡ 0 = rw k1 at nr in
         let le = tally-mono _ (isReply o.owner (t.grant + o.ahead)) (isReplyTo o.owner) ms (c .underWay .fit) (λ m a e. reply-any o.owner (t.grant + o.ahead) m e) in omega arith) in
-        let n2 : o.stage ≢ 2 = (λ y. let w = c .column .number y in omega arith) in
-        let n3 : o.stage ≢ 3 = (λ y. nh (sym (k1 ∙ c .arbiter .ownerIsHolder (c .asks .yieldedFailed y .2)))) in
-        let s4 : o.stage ≡ 4 = omega arith in
+        let n2 : o.stage ≢ HELD = (λ y. let w = c .column .number y in omega arith) in
+        let n3 : o.stage ≢ YIELDED = (λ y. nh (sym (k1 ∙ c .arbiter .ownerIsHolder (c .asks .yieldedFailed y .2)))) in
+        let s4 : o.stage ≡ RELEASED = omega arith in
         kw (c .asks .releasedLeft s4 .0)) in
         s .owed .failOwed k kk not-owner f nf
 
-    inquiring : t.holder ≢ 0 → t.mode t.holder ≡ 1 → (0 < tally (isReply t.holder t.grant) ms) ⊎ (t.held t.holder ≡ t.grant)
+    inquiring : t.holder ≢ 0 → t.mode t.holder ≡ WAITING → (0 < tally (isReply t.holder t.grant) ms) ⊎ (t.held t.holder ≡ t.grant)
         → headOf p t.queued ≢ 0 → p .comesBefore (t.queued (headOf p t.queued)) (headOf p t.queued) t.holderSeq t.holder ≡ true → t.inquired t.holder ≢ t.grant → 0 < tally (isInquire t.holder t.grant) ms
     inquiring h m d =
-        let n0 : o.stage ≢ 0 = (λ z. h (zero-holder z)) in
+        let n0 : o.stage ≢ FREE = (λ z. h (zero-holder z)) in
         let g1 = c .arbiter .whenTaken n0 .3 in
         let w : (t.holder ≡ o.owner) × (o.ahead ≡ 0) × (o.stage ≤ 2) × (o.known o.owner ≢ 0) = elim d [
           | inl r ↦ let (mm, e, a) = all-some _ (isReply t.holder t.grant) ms (c .underWay .fit) r in
@@ -336,7 +336,7 @@ module _ (p : Setting) (law : SettingLaw p) where
               let y1 = y .1 in let y2 = y .2 in (y .0, omega arith, omega arith, c .asks .outKnown (y .2))
           | inr r ↦ let y = c .column .holds t.holder (λ z. omega arith) in
               let nu : t.held t.holder ≡ t.grant + o.ahead = rw (y .0) (c .column .number (y .1)) in let y1 = y .1 in
-              (y .0, omega arith, omega arith, λ z. let u = c .asks .heldInside (y .1) z in let mo : t.mode o.owner ≡ 1 = rw (y .0) at m in omega arith)
+              (y .0, omega arith, omega arith, λ z. let u = c .asks .heldInside (y .1) z in let mo : t.mode o.owner ≡ WAITING = rw (y .0) at m in omega arith)
         ] in
         rw (sym (w .0)) at (s .owed .inquireOwed (w .1) n0 (w .2) (w .3))
 

@@ -8,10 +8,9 @@ use Rattle.protocol.specs.Helpers.{tally, first, withoutFirst}
 use Rattle.protocol.specs.Message.{Message, request, reply, release, handOver, inquire, fail, yield, transfer, between}
 use Rattle.protocol.specs.Setting.{Setting, SettingLaw}
 use Rattle.protocol.specs.Local.{Local, View, view}
-use Rattle.protocol.specs.Site.{remembered, handled}
-use Rattle.protocol.specs.Rig.{requests}
+use Rattle.protocol.specs.Site.{handled}
 use Rattle.protocol.proofs.Lists.{All, tally-without}
-use Rattle.protocol.proofs.Invariant.{ghost, isFailTo, isInquire, Ordered, Ascending, Invariant}
+use Rattle.protocol.proofs.Invariant.{FREE, ghost, isFailTo, isInquire, Ordered, Ascending, Invariant}
 use Rattle.protocol.proofs.Sending.{pull}
 use Rattle.protocol.proofs.Owing.{ascending-pull}
 use Rattle.protocol.proofs.Kept.Fail.{onFail-kept, onInquire-kept}
@@ -59,7 +58,7 @@ module _ (p : Setting) (law : SettingLaw p) where
   pub fresh-invariant : Invariant p freshView
   unfolding freshView tally All Ordered Ascending
   fresh-invariant = (
-    ghost 0 0 0 (λ k. 0),
+    ghost 0 0 FREE (λ k. 0),
     record {
       inquiriesFit = λ k x. absurd (x refl);
       freeQueueEmpty = λ z k. refl;

@@ -10,20 +10,19 @@ use borrow.Author.Tests.{eqb-true, eqb-false, eq-eqb}
 use Rattle.protocol.specs.Helpers.{update, tally}
 use Rattle.protocol.specs.Message.{Message, request, reply, release, handOver, inquire, fail, yield, transfer, REPLY, RELEASE, YIELD, HANDOVER, kind}
 use Rattle.protocol.specs.Setting.{Setting}
-use Rattle.protocol.specs.Local.{WAITING, Local, view}
-use Rattle.protocol.specs.Site.{yielded, remembered}
-use Rattle.protocol.specs.Rig.{requests}
+use Rattle.protocol.specs.Local.{WAITING, INSIDE, Local, view}
+use Rattle.protocol.specs.Site.{yielded}
 use Rattle.protocol.proofs.Basics.{by-bool, clash, and-split}
 use Rattle.protocol.proofs.Lists.{tally-snoc-no, tally-snoc-yes, All, all-snoc, all-map-not, all-none}
-use Rattle.protocol.proofs.Invariant.{Ghost, ghost, siteOf, numberOf, heirOf, isForNumber, carriesPermission, isRequestOf, isReturnOf, isHandOver, isInquireTo, Situation, situation, Fits, Core}
+use Rattle.protocol.proofs.Invariant.{Ghost, OUT, HELD, YIELDED, RELEASED, ghost, siteOf, numberOf, heirOf, isForNumber, carriesPermission, isRequestOf, isReturnOf, isHandOver, isInquireTo, Situation, situation, Fits, Core}
 use Rattle.protocol.proofs.Sending.{ordered-snoc}
 
 -- the stage of the permission that a message carries
 abbrev pub stageBy : ℕ → ℕ
-stageBy c = cond (eqb c REPLY) 1 (cond (eqb c YIELD) 3 4)
+stageBy c = cond (eqb c REPLY) OUT (cond (eqb c YIELD) YIELDED RELEASED)
 
--- a message that carries the permission is a reply at stage 1, a release at stage 4
-kind-at : (c st : ℕ) → (eqb c REPLY || (eqb c YIELD || eqb c RELEASE)) ≡ true → st ≡ stageBy c → (st ≡ 1 → c ≡ REPLY) × (st ≡ 4 → c ≡ RELEASE)
+-- a message that carries the permission is a reply at stage OUT, a release at stage RELEASED
+kind-at : (c st : ℕ) → (eqb c REPLY || (eqb c YIELD || eqb c RELEASE)) ≡ true → st ≡ stageBy c → (st ≡ OUT → c ≡ REPLY) × (st ≡ RELEASED → c ≡ RELEASE)
 kind-at c st e z = by-bool (eqb c REPLY)
     (λ a. let w = rw a at z in (λ u. eqb-true c REPLY a, λ u. absurd (omega arith)))
     (λ a. by-bool (eqb c YIELD)
@@ -66,18 +65,18 @@ module _ (p : Setting) where
     fits-permission (yield i n) a e = a
     fits-permission (transfer i x n) a e = clash false e refl
 
-    -- what carries the permission at stage 1 is the owner's reply, at stage 4 the owner's release
-    pub permission-replied : (m : Message) → Fits p s m → s.stage ≡ 1 → carriesPermission m ≡ true → isForNumber REPLY s.owner (s.grant + s.ahead) m ≡ true
+    -- what carries the permission is the owner's reply at stage OUT, its release at stage RELEASED
+    pub permission-replied : (m : Message) → Fits p s m → s.stage ≡ OUT → carriesPermission m ≡ true → isForNumber REPLY s.owner (s.grant + s.ahead) m ≡ true
     permission-replied m a z e =
         let w = fits-permission m a e in
         rw (kind-at (kind m) s.stage e (w .2) .0 z, eq-eqb s.owner (siteOf m) (sym (w .0)), eq-eqb (s.grant + s.ahead) (numberOf m) (sym (w .1)))
 
-    pub permission-released : (m : Message) → Fits p s m → s.stage ≡ 4 → carriesPermission m ≡ true → isForNumber RELEASE s.owner (s.grant + s.ahead) m ≡ true
+    pub permission-released : (m : Message) → Fits p s m → s.stage ≡ RELEASED → carriesPermission m ≡ true → isForNumber RELEASE s.owner (s.grant + s.ahead) m ≡ true
     permission-released m a z e =
         let w = fits-permission m a e in
         rw (kind-at (kind m) s.stage e (w .2) .1 z, eq-eqb s.owner (siteOf m) (sym (w .0)), eq-eqb (s.grant + s.ahead) (numberOf m) (sym (w .1)))
 
-    pub permission-returns : (m : Message) → Fits p s m → s.stage ≡ 4 → carriesPermission m ≡ true → isReturnOf s.owner m ≡ true
+    pub permission-returns : (m : Message) → Fits p s m → s.stage ≡ RELEASED → carriesPermission m ≡ true → isReturnOf s.owner m ≡ true
     permission-returns m a z e =
         let w = fits-permission m a e in
         rw (kind-at (kind m) s.stage e (w .2) .1 z) (eq-eqb s.owner (siteOf m) (sym (w .0)))
@@ -143,8 +142,8 @@ module _ (p : Setting) where
       (λ m e h. fits-change _ _ m (λ k r. f k (λ z. clash (isRequestOf b m) (rw z at r) e)) (λ z. (refl, refl, refl)) (omega arith) (λ k x z v. v) (λ k x z v w. w v) h) a
 
   -- b, who holds j and waits, yields it
-  pub yielded-core : (t : Local) (known : ℕ → ℕ) (b : ℕ) (ms : List Message) → Core p t (ghost b 0 2 known) ms → t.mode b ≡ 1
-      → Core p ((yielded (view t ms) b) .tables) (ghost b 0 3 known) ((yielded (view t ms) b) .messages)
+  pub yielded-core : (t : Local) (known : ℕ → ℕ) (b : ℕ) (ms : List Message) → Core p t (ghost b 0 HELD known) ms → t.mode b ≡ WAITING
+      → Core p ((yielded (view t ms) b) .tables) (ghost b 0 YIELDED known) ((yielded (view t ms) b) .messages)
   unfolding yielded update Fits
   yielded-core t known b ms c w =
       let busy = c .arbiter .whenTaken (λ z. omega arith) in
@@ -162,7 +161,7 @@ module _ (p : Setting) where
           yieldedFailed = λ z. (kb, rw (eq-eqb b b refl), refl);
           releasedLeft = λ z. absurd (omega arith);
           knownWaits = c .asks .knownWaits;
-          insideHolds = λ k m e. let y = c .asks .insideHolds k m e in let z : t.mode b ≡ 2 = rw (← (y .0)) m in absurd (omega arith);
+          insideHolds = λ k m e. let y = c .asks .insideHolds k m e in let z : t.mode b ≡ INSIDE = rw (← (y .0)) m in absurd (omega arith);
           waitingNumbered = c .asks .waitingNumbered;
           notWaitingClear = λ k. by-bool (eqb k b) (λ e. rw e (λ m. absurd (m (rw (eqb-true k b e) w)))) (λ e. rw e (c .asks .notWaitingClear k));
         };
@@ -176,7 +175,7 @@ module _ (p : Setting) where
           permissions = rw (tally-snoc-yes carriesPermission ms (yield b (t.held b)) refl) (ap suc (c .underWay .permissions));
           requests = λ k x y. rw (tally-snoc-no (isRequestOf k) ms (yield b (t.held b)) refl) (c .underWay .requests k x y);
           handOvers = λ z. absurd (z refl);
-          fit = all-snoc _ ms (yield b (t.held b)) (all-stage t b 0 2 3 ms (c .underWay .permissions) (c .underWay .fit)) (refl, c .column .number refl, refl);
+          fit = all-snoc _ ms (yield b (t.held b)) (all-stage t b 0 HELD YIELDED ms (c .underWay .permissions) (c .underWay .fit)) (refl, c .column .number refl, refl);
           ordered = ordered-snoc ms (yield b (t.held b)) (λ i e. rw (eqb-true i b e) (omega arith)) (c .underWay .ordered);
         };
       }

@@ -17,13 +17,29 @@ use Rattle.protocol.proofs.Lists.{All}
 
 -- owner: the site that has the permission, or had it last when it is on its way back; 0 while it is free.
 -- ahead: 1 while a hand-over has happened that the arbiter has not heard of, else 0: the permission's number is grant + ahead.
--- stage: 0 free, 1 travelling out in a reply, 2 held by the owner, 3 travelling back in a yield, 4 travelling back in a release.
+-- stage: where the permission is, by the names below.
 -- known k: 1 if k waits and the arbiter has taken its request, else 0.
 pub record Ghost : Type 0 where
   pub owner : ℕ
   pub ahead : ℕ
   pub stage : ℕ
   pub known : ℕ → ℕ
+
+-- at home; travelling out in a reply; held by the owner; travelling back in a yield; travelling back in a release
+abbrev pub FREE : ℕ
+FREE = 0
+
+abbrev pub OUT : ℕ
+OUT = 1
+
+abbrev pub HELD : ℕ
+HELD = 2
+
+abbrev pub YIELDED : ℕ
+YIELDED = 3
+
+abbrev pub RELEASED : ℕ
+RELEASED = 4
 
 abbrev pub ghost : ℕ → ℕ → ℕ → (ℕ → ℕ) → Ghost
 ghost o d s k = record { owner = o; ahead = d; stage = s; known = k }
@@ -94,7 +110,7 @@ isInquire k n m = isInquireTo k m && eqb n (numberOf m)
 
 -- how many messages carry the permission at a stage
 abbrev pub inTransit : ℕ → ℕ
-inTransit s = cond (eqb s 0) 0 (cond (eqb s 2) 0 1)
+inTransit s = cond (eqb s FREE) 0 (cond (eqb s HELD) 0 1)
 
 -- R2: no request stands before a release or yield of the same site
 unfoldable pub Ordered : List Message → Type 0
@@ -129,13 +145,13 @@ module _ (p : Setting) where
   -- owner and exist at one stage only; T5 of hand-overs; T8 of inquires; T6 of transfers. Every site named is a member.
   unfoldable pub Fits : Situation → Message → Type 0
   Fits s (request k n) = (s.mode k ≡ WAITING) × (s.seq k ≡ n) × (p .member k ≡ true)
-  Fits s (reply f k n) = (k ≡ s.owner) × (n ≡ s.grant + s.ahead) × (s.stage ≡ 1) × (1 ≤ f) × (f ≤ p .size)
-  Fits s (release k n) = (k ≡ s.owner) × (n ≡ s.grant + s.ahead) × (s.stage ≡ 4)
+  Fits s (reply f k n) = (k ≡ s.owner) × (n ≡ s.grant + s.ahead) × (s.stage ≡ OUT) × (1 ≤ f) × (f ≤ p .size)
+  Fits s (release k n) = (k ≡ s.owner) × (n ≡ s.grant + s.ahead) × (s.stage ≡ RELEASED)
   Fits s (handOver k x n) =
       (n ≤ s.grant) × (n ≡ s.grant → (k ≡ s.holder) × (x ≡ s.owner) × (s.ahead ≡ 1)) × (p .member k ≡ true) × (p .member x ≡ true) × (1 ≤ n)
   Fits s (inquire k n) = (1 ≤ n) × (n ≤ s.grant) × (p .member k ≡ true)
   Fits s (fail k) = p .member k ≡ true
-  Fits s (yield k n) = (k ≡ s.owner) × (n ≡ s.grant + s.ahead) × (s.stage ≡ 3)
+  Fits s (yield k n) = (k ≡ s.owner) × (n ≡ s.grant + s.ahead) × (s.stage ≡ YIELDED)
   Fits s (transfer k x n) =
       (1 ≤ n) × (n ≤ s.grant) × (n ≡ s.grant → s.holder ≢ 0 → (k ≡ s.holder) × (s.queued x ≢ 0)) × (p .member k ≡ true) × (p .member x ≡ true)
 
@@ -148,10 +164,10 @@ module _ (p : Setting) where
     -- where it has not, the owner is another site and still queued
     pub handedOver : ahead ≢ 0 → (1 ≤ queued owner) × (1 ≤ holder) × (owner ≢ holder)
     -- free: no owner, nothing unheard, no holder's number
-    pub whenFree : stage ≡ 0 → (owner ≡ 0) × (ahead ≡ 0) × (holderSeq ≡ 0)
+    pub whenFree : stage ≡ FREE → (owner ≡ 0) × (ahead ≡ 0) × (holderSeq ≡ 0)
     -- not free: owner and holder are sites with this arbiter in their set, and the numbers are at least 1
-    pub whenTaken : stage ≢ 0 → (p .member owner ≡ true) × (p .member holder ≡ true) × (1 ≤ holderSeq) × (1 ≤ grant)
-    pub stageRange : stage ≤ 4
+    pub whenTaken : stage ≢ FREE → (p .member owner ≡ true) × (p .member holder ≡ true) × (1 ≤ holderSeq) × (1 ≤ grant)
+    pub stageRange : stage ≤ RELEASED
     -- A2: the holder is not queued
     pub holderNotQueued : queued holder ≡ 0
 
@@ -164,29 +180,29 @@ module _ (p : Setting) where
     -- R3 for the owner: its entry, as holder or in the queue, is current
     pub ownerEntry : known owner ≢ 0 → (ahead ≡ 0 → holderSeq ≡ seq owner) × (ahead ≢ 0 → queued owner ≡ seq owner)
     -- T1: whoever a reply goes to still waits
-    pub outKnown : stage ≡ 1 → known owner ≢ 0
+    pub outKnown : stage ≡ OUT → known owner ≢ 0
     -- T2: who holds the permission and does not wait for it is inside
-    pub heldInside : stage ≡ 2 → known owner ≡ 0 → mode owner ≡ INSIDE
+    pub heldInside : stage ≡ HELD → known owner ≡ 0 → mode owner ≡ INSIDE
     -- T3: a site that has yielded waits and is failed; it yields only what the arbiter granted itself
-    pub yieldedFailed : stage ≡ 3 → (known owner ≢ 0) × (failed owner ≡ true) × (ahead ≡ 0)
+    pub yieldedFailed : stage ≡ YIELDED → (known owner ≢ 0) × (failed owner ≡ true) × (ahead ≡ 0)
     -- T4: a site that has released is not inside, and a new ask of it is not known yet
-    pub releasedLeft : stage ≡ 4 → (known owner ≡ 0) × (mode owner ≢ INSIDE)
+    pub releasedLeft : stage ≡ RELEASED → (known owner ≡ 0) × (mode owner ≢ INSIDE)
     -- who is known waits
     pub knownWaits : (k : ℕ) → known k ≢ 0 → (mode k ≡ WAITING) × (p .member k ≡ true) × (known k ≡ 1)
     -- S2: who is inside holds the permission
-    pub insideHolds : (k : ℕ) → mode k ≡ INSIDE → p .member k ≡ true → (k ≡ owner) × (stage ≡ 2)
+    pub insideHolds : (k : ℕ) → mode k ≡ INSIDE → p .member k ≡ true → (k ≡ owner) × (stage ≡ HELD)
     -- "A site not waiting has sequence number and failed mark 0, a waiting one a sequence number of at least 1"
     pub waitingNumbered : (k : ℕ) → mode k ≡ WAITING → 1 ≤ seq k
     pub notWaitingClear : (k : ℕ) → mode k ≢ WAITING → (seq k ≡ 0) × (failed k ≡ false)
 
   -- The column of the sites' tables.
   pub record Column (grant : ℕ) (queued mode held heir inquired : ℕ → ℕ) (owner ahead stage : ℕ) : Type 0 where
-    -- T2: only the owner holds, and only at stage 2
-    pub holds : (k : ℕ) → held k ≢ 0 → (k ≡ owner) × (stage ≡ 2)
+    -- T2: only the owner holds, and only at that stage
+    pub holds : (k : ℕ) → held k ≢ 0 → (k ≡ owner) × (stage ≡ HELD)
     -- T2: with the permission's number
-    pub number : stage ≡ 2 → held owner ≡ grant + ahead
+    pub number : stage ≡ HELD → held owner ≡ grant + ahead
     -- T7: an heir stands at the owner alone, while the arbiter is not behind, and is queued
-    pub heirs : (k : ℕ) → heir k ≢ 0 → (k ≡ owner) × (stage ≡ 2) × (ahead ≡ 0) × (queued (heir k) ≢ 0)
+    pub heirs : (k : ℕ) → heir k ≢ 0 → (k ≡ owner) × (stage ≡ HELD) × (ahead ≡ 0) × (queued (heir k) ≢ 0)
     -- T8: who remembers an inquire waits, and the number is no later than the grant number
     pub remembered : (k : ℕ) → inquired k ≢ 0 → (mode k ≡ WAITING) × (p .member k ≡ true) × (inquired k ≤ grant)
 
@@ -208,7 +224,7 @@ module _ (p : Setting) where
     -- L1: a queued site that is not failed and to whom no fail is under way is the head and comes before the holder
     pub failOwed : (k : ℕ) → known k ≢ 0 → k ≢ owner → failed k ≡ false → tally (isFailTo k) ms ≡ 0 → (headOf p queued ≡ k) × (p .comesBefore (queued k) k holderSeq holder ≡ true)
     -- L2: where the head comes before the holder, which waits, the holder remembers an inquire or one is under way
-    pub inquireOwed : ahead ≡ 0 → stage ≢ 0 → stage ≤ 2 → known owner ≢ 0 → headOf p queued ≢ 0 → p .comesBefore (queued (headOf p queued)) (headOf p queued) holderSeq holder ≡ true → inquired owner ≢ grant
+    pub inquireOwed : ahead ≡ 0 → stage ≢ FREE → stage ≤ HELD → known owner ≢ 0 → headOf p queued ≢ 0 → p .comesBefore (queued (headOf p queued)) (headOf p queued) holderSeq holder ≡ true → inquired owner ≢ grant
         → 0 < tally (isInquire owner grant) ms
     -- L3: inquires arrive in order of number, none older than the one remembered
     pub ascending : (k : ℕ) → Ascending k (inquired k) ms
@@ -233,7 +249,7 @@ module _ (p : Setting) where
     -- S4
     pub inquiriesFit : (k : ℕ) → InquiryFits v.tables k
     -- A1: while the permission is free, the queue is empty
-    pub freeQueueEmpty : o.stage ≡ 0 → (k : ℕ) → v.tables.queued k ≡ 0
+    pub freeQueueEmpty : o.stage ≡ FREE → (k : ℕ) → v.tables.queued k ≡ 0
     pub owed : OwedIn v.tables o v.messages
 
   -- The invariant: some ghosts fit.

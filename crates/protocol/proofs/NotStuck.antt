@@ -8,7 +8,7 @@ use lib.Dec.{eqb}
 use borrow.Author.Tests.{eqb-true, eqb-false, eq-eqb, ne-eqb}
 use Rattle.protocol.specs.Helpers.{tally, first}
 use Rattle.protocol.specs.Setting.{Setting, SettingLaw}
-use Rattle.protocol.specs.Local.{Local, view}
+use Rattle.protocol.specs.Local.{REST, WAITING, Local, view}
 use Rattle.protocol.specs.Arbiter.{headOf}
 use Rattle.protocol.specs.System.{System, Lawful, settingOf}
 use Rattle.protocol.specs.Rig.{Row, Sites, localOf}
@@ -17,9 +17,9 @@ use Rattle.protocol.proofs.Head.{head-is}
 use Rattle.protocol.proofs.Seen.{law-of}
 use Rattle.protocol.proofs.Clauses.{Clauses}
 
-module _ (p : Setting) (law : SettingLaw p) (t : Local) (v : Clauses p (view t [])) (out : (k : ℕ) → (t.mode k ≡ 0) ⊎ (t.mode k ≡ 1)) where
+module _ (p : Setting) (law : SettingLaw p) (t : Local) (v : Clauses p (view t [])) (out : (k : ℕ) → (t.mode k ≡ REST) ⊎ (t.mode k ≡ WAITING)) where
   -- with nothing under way and nobody inside, a holder has the permission
-  pub holder-holds : t.holder ≢ 0 → (t.held t.holder ≡ t.grant) × (t.held t.holder ≢ 0) × (t.mode t.holder ≡ 1) × (t.holderSeq ≡ t.seq t.holder)
+  pub holder-holds : t.holder ≢ 0 → (t.held t.holder ≡ t.grant) × (t.held t.holder ≢ 0) × (t.mode t.holder ≡ WAITING) × (t.holderSeq ≡ t.seq t.holder)
   unfolding tally
   holder-holds h =
       let one = rw (ne-eqb t.holder 0 h) at (v .A3) in
@@ -29,13 +29,13 @@ module _ (p : Setting) (law : SettingLaw p) (t : Local) (v : Clauses p (view t [
         | inl w ↦ let e = w .0 in
             let hh : t.held t.holder ≢ 0 = rw e at hi in
             let hg : t.held t.holder ≡ t.grant = rw e at (w .1) in
-            let mo : t.mode t.holder ≡ 1 = elim (out t.holder) [ inl m ↦ absurd (hh (v .S1 t.holder m .0)) | inr m ↦ m ] in
+            let mo : t.mode t.holder ≡ WAITING = elim (out t.holder) [ inl m ↦ absurd (hh (v .S1 t.holder m .0)) | inr m ↦ m ] in
             (hg, hh, mo, (rw e at (w .2)) mo)
         | inr w ↦ let y = w .3 .1 in absurd (omega arith)
       ]
 
   -- a queued site waits, and its entry is current
-  pub queued-current : (i : ℕ) → t.queued i ≢ 0 → (t.mode i ≡ 1) × (t.queued i ≡ t.seq i)
+  pub queued-current : (i : ℕ) → t.queued i ≢ 0 → (t.mode i ≡ WAITING) × (t.queued i ≡ t.seq i)
   unfolding tally
   queued-current i h =
       let mi = v .queuedMember i h in
@@ -45,9 +45,9 @@ module _ (p : Setting) (law : SettingLaw p) (t : Local) (v : Clauses p (view t [
       ]
 
   -- a waiting site that lacks the permission, and is not failed or comes first, waits for one that comes later and is not failed
-  pub chase : (k : ℕ) → t.mode k ≡ 1 → p .member k ≡ true → t.held k ≡ 0
-      → (t.failed k ≡ false) ⊎ ((i : ℕ) → t.mode i ≡ 1 → i ≢ k → p .comesBefore (t.seq k) k (t.seq i) i ≡ true)
-      → (h : ℕ) × (t.mode h ≡ 1) × (t.failed h ≡ false) × (p .comesBefore (t.seq k) k (t.seq h) h ≡ true)
+  pub chase : (k : ℕ) → t.mode k ≡ WAITING → p .member k ≡ true → t.held k ≡ 0
+      → (t.failed k ≡ false) ⊎ ((i : ℕ) → t.mode i ≡ WAITING → i ≢ k → p .comesBefore (t.seq k) k (t.seq i) i ≡ true)
+      → (h : ℕ) × (t.mode h ≡ WAITING) × (t.failed h ≡ false) × (p .comesBefore (t.seq k) k (t.seq h) h ≡ true)
   unfolding tally
   chase k m e h0 d =
       let k1 = law .siteInRange k e in
@@ -75,9 +75,9 @@ module _ (p : Setting) (law : SettingLaw p) (t : Local) (v : Clauses p (view t [
 
 module _ (y : System) (lw : Lawful y) (s : Sites) (rows : ℕ → Row)
     (inv : (j : ℕ) → Clauses (settingOf y j) (view (localOf s (rows j)) []))
-    (out : (k : ℕ) → (s.mode k ≡ 0) ⊎ (s.mode k ≡ 1))
-    (inRange : (k : ℕ) → s.mode k ≡ 1 → k ≤ y.size)
-    (lacksOne : (k : ℕ) → s.mode k ≡ 1 → (j : ℕ) × (y.sets k j ≡ true) × ((rows j) .held k ≡ 0)) where
+    (out : (k : ℕ) → (s.mode k ≡ REST) ⊎ (s.mode k ≡ WAITING))
+    (inRange : (k : ℕ) → s.mode k ≡ WAITING → k ≤ y.size)
+    (lacksOne : (k : ℕ) → s.mode k ≡ WAITING → (j : ℕ) × (y.sets k j ≡ true) × ((rows j) .held k ≡ 0)) where
   sooner : ℕ → ℕ → Bool
   sooner a b = y.comesBefore (s.seq a) a (s.seq b) b
 
@@ -101,35 +101,35 @@ module _ (y : System) (lw : Lawful y) (s : Sites) (rows : ℕ → Row)
   late-trans a b c p q = lw .transitive (s.seq c) c (s.seq b) b (s.seq a) a q p
 
   waits : ℕ → Bool
-  waits k = eqb (s.mode k) 1
+  waits k = eqb (s.mode k) WAITING
 
   free : ℕ → Bool
-  free k = eqb (s.mode k) 1 && not (s.failed k)
+  free k = eqb (s.mode k) WAITING && not (s.failed k)
 
   not-false : (b : Bool) → not b ≡ true → b ≡ false
   not-false true e = sym e
   not-false false e = refl
 
-  next : (k : ℕ) → s.mode k ≡ 1 → (s.failed k ≡ false) ⊎ ((i : ℕ) → s.mode i ≡ 1 → i ≢ k → y.comesBefore (s.seq k) k (s.seq i) i ≡ true)
-      → (h : ℕ) × (s.mode h ≡ 1) × (s.failed h ≡ false) × (y.comesBefore (s.seq k) k (s.seq h) h ≡ true)
+  next : (k : ℕ) → s.mode k ≡ WAITING → (s.failed k ≡ false) ⊎ ((i : ℕ) → s.mode i ≡ WAITING → i ≢ k → y.comesBefore (s.seq k) k (s.seq i) i ≡ true)
+      → (h : ℕ) × (s.mode h ≡ WAITING) × (s.failed h ≡ false) × (y.comesBefore (s.seq k) k (s.seq h) h ≡ true)
   next k m d = let (j, e, h) = lacksOne k m in chase (settingOf y j) (law-of y lw j) (localOf s (rows j)) (inv j) out k m e h d
 
   no-last : Least later late-irrefl late-trans free (suc y.size) → ⊥
   unfolding later free
   no-last l =
-      let w = and-split (eqb (s.mode l.at) 1) (not (s.failed l.at)) l.marked in
-      let (h, m, f, b) = next l.at (eqb-true (s.mode l.at) 1 (w .0)) (inl (not-false (s.failed l.at) (w .1))) in
+      let w = and-split (eqb (s.mode l.at) WAITING) (not (s.failed l.at)) l.marked in
+      let (h, m, f, b) = next l.at (eqb-true (s.mode l.at) WAITING (w .0)) (inl (not-false (s.failed l.at) (w .1))) in
       let z = inRange h m in
-      clash (y.comesBefore (s.seq l.at) l.at (s.seq h) h) b (l.first h (omega arith) (rw (eq-eqb (s.mode h) 1 m, f)))
+      clash (y.comesBefore (s.seq l.at) l.at (s.seq h) h) b (l.first h (omega arith) (rw (eq-eqb (s.mode h) WAITING m, f)))
 
   -- nobody is stuck: with nothing under way and nobody inside, nobody waits
-  pub nobody : (k : ℕ) → s.mode k ≢ 1
+  pub nobody : (k : ℕ) → s.mode k ≢ WAITING
   unfolding sooner later waits free
   nobody k m = ⊎-elim
-      (λ l. let lm = eqb-true (s.mode l.at) 1 l.marked in
-      let (h, mh, f, b) = next l.at lm (inr (λ i mi ne. let z = inRange i mi in lw .total (s.seq i) i (s.seq l.at) l.at ne (l.first i (omega arith) (eq-eqb (s.mode i) 1 mi)))) in
+      (λ l. let lm = eqb-true (s.mode l.at) WAITING l.marked in
+      let (h, mh, f, b) = next l.at lm (inr (λ i mi ne. let z = inRange i mi in lw .total (s.seq i) i (s.seq l.at) l.at ne (l.first i (omega arith) (eq-eqb (s.mode i) WAITING mi)))) in
       let z = inRange h mh in
-      ⊎-elim no-last (λ none-free. clash (free h) (rw (eq-eqb (s.mode h) 1 mh, f)) (none-free h (omega arith)))
+      ⊎-elim no-last (λ none-free. clash (free h) (rw (eq-eqb (s.mode h) WAITING mh, f)) (none-free h (omega arith)))
       (least later late-irrefl late-trans free (suc y.size)))
-      (λ nobody-waits. let z = inRange k m in clash (waits k) (eq-eqb (s.mode k) 1 m) (nobody-waits k (omega arith)))
+      (λ nobody-waits. let z = inRange k m in clash (waits k) (eq-eqb (s.mode k) WAITING m) (nobody-waits k (omega arith)))
       (least sooner soon-irrefl soon-trans waits (suc y.size))

@@ -10,7 +10,7 @@ use lib.ListN.{length}
 use Rattle.protocol.specs.Helpers.{update, first, withoutFirst}
 use Rattle.protocol.specs.Message.{Message, request, reply, release, handOver, inquire, fail, yield, transfer}
 use Rattle.protocol.specs.Setting.{Setting}
-use Rattle.protocol.specs.Local.{Local, View, view, send, withArbiter, withEntries, withQueued}
+use Rattle.protocol.specs.Local.{REST, WAITING, INSIDE, Local, View, view, send, withArbiter, withEntries, withQueued}
 use Rattle.protocol.specs.Arbiter.{fromHolder, headOf, beforeHolder, granted, grantedHead, failFormer, inquireOrFail, answers, queuedUp, onRequest, earlyRelease, onRelease, heirTakesOver, onHandOver, onYield}
 use Rattle.protocol.specs.Site.{yielded, entered, onInquire, onFail, onTransfer, takes, onReply, handled}
 use Rattle.protocol.specs.System.{System, settingOf}
@@ -57,7 +57,7 @@ yielded-bounded b t k s = send-bounded b _ (yield k (t.held k)) (s .held k) (not
 
 pub onFail-bounded : (b : ℕ) (t : Local) (k : ℕ) → LocalBelow b t → ViewBelow b (onFail (view t []) k)
 unfolding onFail
-onFail-bounded b t k s = by-bool (eqb (t.mode k) 1)
+onFail-bounded b t k s = by-bool (eqb (t.mode k) WAITING)
     (λ e. by-bool (not (eqb (t.held k) 0) && not (eqb (t.inquired k) 0))
     (λ f. rw (e, f) (yielded-bounded b t k s))
     (λ f. rw (e, f) (nothing b _ (record { grant = s .grant; holderSeq = s .holderSeq; queued = s .queued; held = s .held; inquired = s .inquired }))))
@@ -67,7 +67,7 @@ onInquire-bounded : (b : ℕ) (t : Local) (k n : ℕ) → n ≤ b → LocalBelow
 unfolding onInquire
 onInquire-bounded b t k n l s =
     let w = nothing b (withEntries t t.held t.heir (update t.inquired k n)) (record { grant = s .grant; holderSeq = s .holderSeq; queued = s .queued; held = s .held; inquired = update-bounded t.inquired k n b l (s .inquired) }) in
-    by-bool (eqb (t.mode k) 1)
+    by-bool (eqb (t.mode k) WAITING)
     (λ e. by-bool (eqb (t.held k) 0)
     (λ f. rw (e, f) w)
     (λ f. by-bool (eqb n (t.held k))
@@ -167,7 +167,7 @@ module _ (p : Setting) where
         held = update-bounded t.held k n b l (s .held);
         inquired = update-bounded t.inquired k _ b (by-bool (eqb (t.inquired k) n) (λ e. rw e l) (λ e. rw e (omega arith))) (s .inquired);
       } in
-      by-bool (eqb (t.mode k) 1 && (p .member k && eqb (t.held k) 0))
+      by-bool (eqb (t.mode k) WAITING && (p .member k && eqb (t.held k) 0))
       (λ e. by-bool ent
       (λ f. rw (e, f) (entered-bounded b _ k u))
       (λ f. by-bool (t.failed k && not (eqb (update t.inquired k (cond (eqb (t.inquired k) n) n 0) k) 0))
@@ -313,9 +313,9 @@ module _ (y : System) where
 
   step-bounded : (b : ℕ) (r : Rig) (e : Event) → RigBelow b r → RigBelow (suc (suc b)) (step y r e)
   unfolding step
-  step-bounded b r (ask s) h = by-bool ((leb 1 s && leb s y.size) && eqb (r.sites.mode s) 0)
+  step-bounded b r (ask s) h = by-bool ((leb 1 s && leb s y.size) && eqb (r.sites.mode s) REST)
       (λ e. rw e (rig-up (suc b) _ _ (omega arith) (asked-bounded b r s h))) (λ e. rw e (rig-up b _ r (omega arith) h))
-  step-bounded b r (leave s) h = by-bool (eqb (r.sites.mode s) 2)
+  step-bounded b r (leave s) h = by-bool (eqb (r.sites.mode s) INSIDE)
       (λ e. rw e (rig-up (suc b) _ _ (omega arith) (left-bounded b r s h))) (λ e. rw e (rig-up b _ r (omega arith) h))
   step-bounded b r (deliver a c) h = takenOff-bounded b r a c (first (channel a c) r.underWay) refl h
 

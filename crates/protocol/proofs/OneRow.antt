@@ -8,7 +8,7 @@ use borrow.Author.Tests.{ne-eqb}
 use Rattle.protocol.specs.Helpers.{update}
 use Rattle.protocol.specs.Message.{Message, request, reply, release, handOver, inquire, fail, yield, transfer}
 use Rattle.protocol.specs.Setting.{Setting}
-use Rattle.protocol.specs.Local.{Local, View, view, withArbiter, withQueued}
+use Rattle.protocol.specs.Local.{WAITING, Local, View, view, withArbiter, withQueued}
 use Rattle.protocol.specs.Arbiter.{fromHolder, headOf, beforeHolder, granted, grantedHead, failFormer, inquireOrFail, answers, queuedUp, onRequest, earlyRelease, onRelease, heirTakesOver, onHandOver, onYield}
 use Rattle.protocol.specs.Site.{yielded, entered, onInquire, onFail, onTransfer, onReply, handled}
 use Rattle.protocol.specs.Rig.{localOf, rowOf, sitesOf}
@@ -87,7 +87,7 @@ module _ (p : Setting) where
 
   onInquire-row : (t : Local) (b n : ℕ) (ms : List Message) → OneRow (λ v. onInquire v b n) t ms
   unfolding onInquire yielded
-  onInquire-row t b n ms = by-bool (eqb (t.mode b) 1)
+  onInquire-row t b n ms = by-bool (eqb (t.mode b) WAITING)
       (λ e. by-bool (eqb (t.held b) 0)
       (λ f. rw (e, f) (rw append-nil, λ i h. h))
       (λ f. by-bool (eqb n (t.held b))
@@ -98,20 +98,20 @@ module _ (p : Setting) where
       (λ e. rw e (rw append-nil, λ i h. h))
 
   pub onFail-row : (t : Local) (b : ℕ) (ms : List Message)
-      → (onFail (view t ms) b ≡ view (localOf (record { mode = t.mode; seq = t.seq; failed = cond (eqb (t.mode b) 1) (update t.failed b true) t.failed }) (rowOf ((onFail (view t []) b) .tables))) (ms ++ (onFail (view t []) b) .messages))
+      → (onFail (view t ms) b ≡ view (localOf (record { mode = t.mode; seq = t.seq; failed = cond (eqb (t.mode b) WAITING) (update t.failed b true) t.failed }) (rowOf ((onFail (view t []) b) .tables))) (ms ++ (onFail (view t []) b) .messages))
       × ((k : ℕ) → t.held k ≡ 0 → (onFail (view t []) b) .tables .held k ≡ 0)
   unfolding onFail yielded
-  onFail-row t b ms = by-bool (eqb (t.mode b) 1)
+  onFail-row t b ms = by-bool (eqb (t.mode b) WAITING)
       (λ e. by-bool (not (eqb (t.held b) 0) && not (eqb (t.inquired b) 0))
       (λ f. rw (e, f) (refl, λ i z. less t b i z))
       (λ f. rw (e, f) (rw append-nil, λ i h. h)))
       (λ e. rw e (rw append-nil, λ i h. h))
 
   pub onReply-row : (t : Local) (b n : ℕ) (ent : Bool) (ms : List Message)
-      → onReply p (view t ms) b n ent ≡ view (localOf (cond ((eqb (t.mode b) 1 && (p .member b && eqb (t.held b) 0)) && ent)
+      → onReply p (view t ms) b n ent ≡ view (localOf (cond ((eqb (t.mode b) WAITING && (p .member b && eqb (t.held b) 0)) && ent)
       (record { mode = update t.mode b 2; seq = update t.seq b 0; failed = update t.failed b false }) (sitesOf t)) (rowOf ((onReply p (view t []) b n ent) .tables))) (ms ++ (onReply p (view t []) b n ent) .messages)
   unfolding onReply yielded entered
-  onReply-row t b n ent ms = by-bool (eqb (t.mode b) 1 && (p .member b && eqb (t.held b) 0))
+  onReply-row t b n ent ms = by-bool (eqb (t.mode b) WAITING && (p .member b && eqb (t.held b) 0))
       (λ e. by-bool ent
       (λ f. rw (e, f) (rw append-nil))
       (λ f. by-bool (t.failed b && not (eqb (update t.inquired b (cond (eqb (t.inquired b) n) n 0) b) 0))
@@ -122,7 +122,7 @@ module _ (p : Setting) where
   -- a reply changes what b holds, and nobody else
   pub reply-held : (t : Local) (b n : ℕ) (ent : Bool) (k : ℕ) → k ≢ b → t.held k ≡ 0 → (onReply p (view t []) b n ent) .tables .held k ≡ 0
   unfolding onReply yielded entered update
-  reply-held t b n ent k ne h = by-bool (eqb (t.mode b) 1 && (p .member b && eqb (t.held b) 0))
+  reply-held t b n ent k ne h = by-bool (eqb (t.mode b) WAITING && (p .member b && eqb (t.held b) 0))
       (λ e. by-bool ent
       (λ f. rw (e, f, ne-eqb k b ne) h)
       (λ f. by-bool (t.failed b && not (eqb (cond (eqb b b) (cond (eqb (t.inquired b) n) n 0) (t.inquired b)) 0))

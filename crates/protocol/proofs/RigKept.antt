@@ -11,7 +11,7 @@ use lib.Dec.{eqb, leb}
 use borrow.Author.Tests.{eqb-true, eqb-false, eq-eqb, ne-eqb, leb-true}
 use Rattle.protocol.specs.Helpers.{update, first, withoutFirst}
 use Rattle.protocol.specs.Message.{Message, request, reply, release, handOver, inquire, fail, yield, transfer, between}
-use Rattle.protocol.specs.Local.{Local, view}
+use Rattle.protocol.specs.Local.{REST, WAITING, INSIDE, Local, view}
 use Rattle.protocol.specs.Site.{entered, onFail, takes, onReply, handled}
 use Rattle.protocol.specs.System.{System, Lawful, settingOf}
 use Rattle.protocol.specs.Rig.{Sent, Rig, messagesOf, sent, sentBy, inOrder, channel, Event, ask, leave, deliver, localAt, rowsTaken, requests, asked, handOns, left, allHeld, effect, withEffect, failSeen, delivered, takenOff, step, run, fresh}
@@ -29,7 +29,7 @@ use Rattle.protocol.proofs.RigMessages.{messages-append, messages-sentB
 use Rattle.protocol.proofs.RigInvariant.{RigInvariant, first-fits, held-range, stranger}
 
 module _ (y : System) (lw : Lawful y) where
-  asked-kept : (r : Rig) (s : ℕ) → 1 ≤ s → s ≤ y.size → r.sites.mode s ≡ 0 → RigInvariant y r → RigInvariant y (asked y r s)
+  asked-kept : (r : Rig) (s : ℕ) → 1 ≤ s → s ≤ y.size → r.sites.mode s ≡ REST → RigInvariant y r → RigInvariant y (asked y r s)
   unfolding asked askSeen update
   asked-kept r s a b m w = record {
     arbiters = λ j.
@@ -45,7 +45,7 @@ module _ (y : System) (lw : Lawful y) where
         (λ e. rw e (λ h. w .lacksOne k h));
   }
 
-  left-kept : (r : Rig) (s : ℕ) → r.sites.mode s ≡ 2 → RigInvariant y r → RigInvariant y (left y r s)
+  left-kept : (r : Rig) (s : ℕ) → r.sites.mode s ≡ INSIDE → RigInvariant y r → RigInvariant y (left y r s)
   unfolding left leaveSeen update
   left-kept r s m w = record {
     arbiters = λ j.
@@ -97,7 +97,7 @@ module _ (y : System) (lw : Lawful y) where
 
   onFail-silent : (t : Local) (b : ℕ) → t.held b ≡ 0 → (onFail (view t []) b) .messages ≡ []
   unfolding onFail
-  onFail-silent t b h = by-bool (eqb (t.mode b) 1) (λ e. rw (e, eq-eqb (t.held b) 0 h)) (λ e. rw e)
+  onFail-silent t b h = by-bool (eqb (t.mode b) WAITING) (λ e. rw (e, eq-eqb (t.held b) 0 h)) (λ e. rw e)
 
   home-fail : (r : Rig) (a b j k : ℕ) → first (channel a b) r.underWay ≡ some (sent j (fail k)) → RigInvariant y r
       → Invariant (settingOf y j) (onFail (view (localAt r j) (messagesOf j (withoutFirst (channel a b) r.underWay))) k)
@@ -155,7 +155,7 @@ module _ (y : System) (lw : Lawful y) where
 
   entered-other : (r : Rig) (j b n i : ℕ) → takes (settingOf y j) (localAt r j) b ≡ true → allHeld y (rowsTaken r j b n) b ≡ true → i ≢ j → RigInvariant y r → Invariant (settingOf y i) (entered (viewOf r i) b)
   entered-other r j b n i tk fu ne w =
-      let m = eqb-true (r.sites.mode b) 1 (and-split (eqb (r.sites.mode b) 1) (y.sets b j && eqb ((r.rows j) .held b) 0) tk .0) in
+      let m = eqb-true (r.sites.mode b) WAITING (and-split (eqb (r.sites.mode b) WAITING) (y.sets b j && eqb ((r.rows j) .held b) 0) tk .0) in
       let g = w .arbiters i in
       let s = g .1 in
       entered-kept (settingOf y i) (localAt r i) (g .0) b (messagesOf i r.underWay) m (λ e. all-held r j b n i fu e ne) (s .core) (λ k x. s .inquiriesFit k) (s .freeQueueEmpty) (s .owed)
@@ -175,7 +175,7 @@ module _ (y : System) (lw : Lawful y) where
       let tidy = onReply-row (settingOf y j) t k n ent (messagesOf j rest) in
       by-bool (takes (settingOf y j) (localAt r j) k && allHeld y (rowsTaken r j k n) k)
       (λ go. let g2 = and-split (takes (settingOf y j) (localAt r j) k) (allHeld y (rowsTaken r j k n) k) go in
-      let m1 = eqb-true (r.sites.mode k) 1 (and-split (eqb (r.sites.mode k) 1) (y.sets k j && eqb ((r.rows j) .held k) 0) (g2 .0) .0) in
+      let m1 = eqb-true (r.sites.mode k) WAITING (and-split (eqb (r.sites.mode k) WAITING) (y.sets k j && eqb ((r.rows j) .held k) 0) (g2 .0) .0) in
       rw go (record {
         arbiters = λ i. rw (messages-append i rest (sentBy j new)) (by-bool (eqb i j)
             (λ e. let ij = eqb-true i j e in rw e (rw (ij, messages-sentBy j new) (rw (tidy, go) at (home-reply r a b j u k n ent f w))))
@@ -239,12 +239,12 @@ module _ (y : System) (lw : Lawful y) where
 
   step-kept : (r : Rig) (e : Event) → RigInvariant y r → RigInvariant y (step y r e)
   unfolding step
-  step-kept r (ask s) w = by-bool ((leb 1 s && leb s y.size) && eqb (r.sites.mode s) 0)
-      (λ e. let z = and-split (leb 1 s && leb s y.size) (eqb (r.sites.mode s) 0) e in
+  step-kept r (ask s) w = by-bool ((leb 1 s && leb s y.size) && eqb (r.sites.mode s) REST)
+      (λ e. let z = and-split (leb 1 s && leb s y.size) (eqb (r.sites.mode s) REST) e in
       let v = and-split (leb 1 s) (leb s y.size) (z .0) in
-      rw e (asked-kept r s (leb-true 1 s (v .0)) (leb-true s y.size (v .1)) (eqb-true (r.sites.mode s) 0 (z .1)) w))
+      rw e (asked-kept r s (leb-true 1 s (v .0)) (leb-true s y.size (v .1)) (eqb-true (r.sites.mode s) REST (z .1)) w))
       (λ e. rw e w)
-  step-kept r (leave s) w = by-bool (eqb (r.sites.mode s) 2) (λ e. rw e (left-kept r s (eqb-true (r.sites.mode s) 2 e) w)) (λ e. rw e w)
+  step-kept r (leave s) w = by-bool (eqb (r.sites.mode s) INSIDE) (λ e. rw e (left-kept r s (eqb-true (r.sites.mode s) INSIDE e) w)) (λ e. rw e w)
   step-kept r (deliver a b) w = takenOff-kept r a b (first (channel a b) r.underWay) refl w
 
   -- every state of a run

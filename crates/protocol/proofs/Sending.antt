@@ -10,7 +10,6 @@ use borrow.Author.Tests.{eqb-true, eq-eqb}
 use Rattle.protocol.specs.Helpers.{tally, first, withoutFirst}
 use Rattle.protocol.specs.Message.{Message, request, reply, release, handOver, inquire, fail, yield, transfer, between}
 use Rattle.protocol.specs.Setting.{Setting}
-use Rattle.protocol.specs.Rig.{requests}
 use Rattle.protocol.proofs.Basics.{by-bool, clash, and-split}
 use Rattle.protocol.proofs.Lists.{tally-cons, tally-snoc, tally-snoc-no, all-snoc, first-holds, tally-without, all-without}
 use Rattle.protocol.proofs.Invariant.{carriesPermission, isRequestOf, isReturnOf, isHandOver, Ordered, Situation, Fits, UnderWay}

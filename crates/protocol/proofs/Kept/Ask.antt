@@ -9,28 +9,26 @@ use borrow.Author.Tests.{eqb-true, eqb-false, eq-eqb, ne-eqb}
 use Rattle.protocol.specs.Helpers.{update, tally}
 use Rattle.protocol.specs.Message.{Message, request}
 use Rattle.protocol.specs.Setting.{Setting}
-use Rattle.protocol.specs.Local.{Local, view, withSites, withEntries}
-use Rattle.protocol.specs.Site.{remembered}
-use Rattle.protocol.specs.Rig.{requests}
+use Rattle.protocol.specs.Local.{REST, Local, view, withSites, withEntries}
 use Rattle.protocol.proofs.Basics.{by-bool, clash}
 use Rattle.protocol.proofs.Lists.{tally-snoc, tally-snoc-no, tally-snoc-yes, All, all-snoc}
-use Rattle.protocol.proofs.Invariant.{Ghost, carriesPermission, isRequestOf, isHandOver, situation, InquiryFits, Fits, Asks, Column, OwedIn, UnderWayIn, Core, Invariant}
+use Rattle.protocol.proofs.Invariant.{Ghost, HELD, carriesPermission, isRequestOf, isHandOver, situation, InquiryFits, Fits, Asks, Column, OwedIn, UnderWayIn, Core, Invariant}
 use Rattle.protocol.proofs.Sending.{ordered-snoc}
 use Rattle.protocol.proofs.Fitting.{no-request, all-mode}
 use Rattle.protocol.proofs.Owing.{owed-send, ascending-update}
 use Rattle.protocol.proofs.Seen.{askSeen}
 
 module _ (p : Setting) where
-  module _ (t : Local) (k s : ℕ) (ms : List Message) (w : t.mode k ≡ 0) (l : 1 ≤ s) (o : Ghost) (c : Core p t o ms) where
+  module _ (t : Local) (k s : ℕ) (ms : List Message) (w : t.mode k ≡ REST) (l : 1 ≤ s) (o : Ghost) (c : Core p t o ms) where
     waiting : Local
     waiting = withEntries (withSites t (update t.mode k 1) (update t.seq k s) (update t.failed k false)) (update t.held k 0) (update t.heir k 0) (update t.inquired k 0)
 
     nk : (i : ℕ) → o.known i ≢ 0 → eqb i k ≡ false
-    nk i h = ne-eqb i k (λ z. let y = c .asks .knownWaits i h .0 in let u : t.mode i ≡ 0 = rw z w in omega arith)
+    nk i h = ne-eqb i k (λ z. let y = c .asks .knownWaits i h .0 in let u : t.mode i ≡ REST = rw z w in omega arith)
 
-    no2 : o.stage ≡ 2 → o.owner ≢ k
+    no2 : o.stage ≡ HELD → o.owner ≢ k
     no2 z y =
-        let x : t.mode o.owner ≡ 0 = rw y w in
+        let x : t.mode o.owner ≡ REST = rw y w in
         by-bool (eqb (o.known o.owner) 0)
         (λ e. let u = c .asks .heldInside z (eqb-true _ _ e) in omega arith)
         (λ e. let u = c .asks .knownWaits o.owner (eqb-false _ _ e) .0 in omega arith)
@@ -104,7 +102,7 @@ module _ (p : Setting) where
       ascending = ascending-update p t.inquired k 0 ms (omega arith) (l .ascending);
     }
 
-  pub askSeen-kept : (t : Local) (k s : ℕ) (ms : List Message) → t.mode k ≡ 0 → 1 ≤ s → Invariant p (view t ms) → Invariant p (askSeen p (view t ms) k s)
+  pub askSeen-kept : (t : Local) (k s : ℕ) (ms : List Message) → t.mode k ≡ REST → 1 ≤ s → Invariant p (view t ms) → Invariant p (askSeen p (view t ms) k s)
   unfolding askSeen waiting
   askSeen-kept t k s ms w l (o, v) =
       let c = v .core in

@@ -9,16 +9,15 @@ use borrow.Author.Tests.{eqb-true, eqb-false, eq-eqb, ne-eqb}
 use Rattle.protocol.specs.Helpers.{update}
 use Rattle.protocol.specs.Message.{Message}
 use Rattle.protocol.specs.Setting.{Setting}
-use Rattle.protocol.specs.Local.{Local, view}
-use Rattle.protocol.specs.Site.{entered, remembered}
-use Rattle.protocol.specs.Rig.{requests}
+use Rattle.protocol.specs.Local.{WAITING, Local, view}
+use Rattle.protocol.specs.Site.{entered}
 use Rattle.protocol.proofs.Basics.{by-bool, clash}
-use Rattle.protocol.proofs.Invariant.{Ghost, ghost, situation, InquiryFits, OwedIn, Core, Invariant}
+use Rattle.protocol.proofs.Invariant.{Ghost, FREE, HELD, ghost, situation, InquiryFits, OwedIn, Core, Invariant}
 use Rattle.protocol.proofs.Fitting.{fix, no-request, all-mode}
 use Rattle.protocol.proofs.Owing.{fix-owed, ascending-update}
 
 module _ (p : Setting) where
-  enter-member : (t : Local) (b d : ℕ) (known : ℕ → ℕ) (ms : List Message) → t.mode b ≡ 1 → Core p t (ghost b d 2 known) ms → Core p ((entered (view t ms) b) .tables) (ghost b d 2 (update known b 0)) ms
+  enter-member : (t : Local) (b d : ℕ) (known : ℕ → ℕ) (ms : List Message) → t.mode b ≡ WAITING → Core p t (ghost b d HELD known) ms → Core p ((entered (view t ms) b) .tables) (ghost b d HELD (update known b 0)) ms
   unfolding entered update
   enter-member t b d known ms w c =
       let busy = c .arbiter .whenTaken (λ z. omega arith) in
@@ -50,12 +49,12 @@ module _ (p : Setting) where
           permissions = c .underWay .permissions;
           requests = λ k. by-bool (eqb k b) (λ e. rw e (λ x. absurd (omega arith))) (λ e. rw e (c .underWay .requests k));
           handOvers = c .underWay .handOvers;
-          fit = all-mode p (situation t b d 2) _ _ b ms (λ k ne. (rw (ne-eqb k b ne), rw (ne-eqb k b ne))) (omega arith) (c .underWay .fit);
+          fit = all-mode p (situation t b d HELD) _ _ b ms (λ k ne. (rw (ne-eqb k b ne), rw (ne-eqb k b ne))) (omega arith) (c .underWay .fit);
           ordered = c .underWay .ordered;
         };
       }
 
-  enter-stranger : (t : Local) (o : Ghost) (b : ℕ) (ms : List Message) → t.mode b ≡ 1 → p .member b ≡ false → Core p t o ms → Core p ((entered (view t ms) b) .tables) o ms
+  enter-stranger : (t : Local) (o : Ghost) (b : ℕ) (ms : List Message) → t.mode b ≡ WAITING → p .member b ≡ false → Core p t o ms → Core p ((entered (view t ms) b) .tables) o ms
   unfolding entered update
   enter-stranger t o b ms w nm c =
       let nb : (k : ℕ) → p .member k ≡ true → eqb k b ≡ false = λ k m. ne-eqb k b (λ z. clash (p .member k) m (rw z nm)) in
@@ -91,14 +90,14 @@ module _ (p : Setting) where
       }
 
   -- b enters: S4 need not hold of b before
-  pub entered-kept : (t : Local) (o : Ghost) (b : ℕ) (ms : List Message) → t.mode b ≡ 1 → (p .member b ≡ true → t.held b ≢ 0) → Core p t o ms
-      → ((k : ℕ) → k ≢ b → InquiryFits t k) → (o.stage ≡ 0 → (k : ℕ) → t.queued k ≡ 0)
+  pub entered-kept : (t : Local) (o : Ghost) (b : ℕ) (ms : List Message) → t.mode b ≡ WAITING → (p .member b ≡ true → t.held b ≢ 0) → Core p t o ms
+      → ((k : ℕ) → k ≢ b → InquiryFits t k) → (o.stage ≡ FREE → (k : ℕ) → t.queued k ≡ 0)
       → OwedIn p t o ms → Invariant p (entered (view t ms) b)
   unfolding entered update
   entered-kept t o b ms w h c m i lv =
       by-bool (p .member b)
       (λ e. let y = c .column .holds b (h e) in (
-        ghost b o.ahead 2 (update o.known b 0),
+        ghost b o.ahead HELD (update o.known b 0),
         record {
           core = enter-member t b o.ahead o.known ms w (fix p t o ms b o.ahead 2 (y .0) refl (sym (y .1)) c);
           inquiriesFit = fits-still;

@@ -9,13 +9,13 @@ use borrow.Author.Tests.{eqb-true, eqb-false, eq-eqb, ne-eqb}
 use Rattle.protocol.specs.Helpers.{update, tally}
 use Rattle.protocol.specs.Message.{Message, inquire, fail, yield}
 use Rattle.protocol.specs.Setting.{Setting}
-use Rattle.protocol.specs.Local.{Local, view, withSites, withEntries}
+use Rattle.protocol.specs.Local.{WAITING, Local, view, withSites, withEntries}
 use Rattle.protocol.specs.Arbiter.{headOf}
-use Rattle.protocol.specs.Site.{yielded, remembered, onInquire, onFail}
-use Rattle.protocol.specs.Rig.{requests, asked}
+use Rattle.protocol.specs.Site.{yielded, onInquire, onFail}
+use Rattle.protocol.specs.Rig.{asked}
 use Rattle.protocol.proofs.Basics.{by-bool, clash, and-split}
 use Rattle.protocol.proofs.Lists.{All}
-use Rattle.protocol.proofs.Invariant.{Ghost, ghost, numberOf, isFailTo, isInquire, Ordered, Ascending, InquiryFits, Fits, UnderWayIn, Core, Invariant}
+use Rattle.protocol.proofs.Invariant.{Ghost, FREE, HELD, YIELDED, ghost, numberOf, isFailTo, isInquire, Ordered, Ascending, InquiryFits, Fits, UnderWayIn, Core, Invariant}
 use Rattle.protocol.proofs.Fitting.{fix, yielded-core}
 use Rattle.protocol.proofs.Owing.{snoc-zero, ascending-low, ascending-other}
 
@@ -25,11 +25,11 @@ module _ (p : Setting) where
   OwedBut holderSeq holder q failed owner known ms b = (k : ℕ) → k ≢ b → known k ≢ 0 → k ≢ owner → failed k ≡ false → tally (isFailTo k) ms ≡ 0 → (headOf p q ≡ k) × (p .comesBefore (q k) k holderSeq holder ≡ true)
 
   -- b yields: S4 and L1 need not hold of b before
-  pub yielded-kept : (t : Local) (o : Ghost) (b : ℕ) (ms : List Message) → b ≡ o.owner → 0 ≡ o.ahead → 2 ≡ o.stage → t.mode b ≡ 1 → Core p t o ms
+  pub yielded-kept : (t : Local) (o : Ghost) (b : ℕ) (ms : List Message) → b ≡ o.owner → 0 ≡ o.ahead → HELD ≡ o.stage → t.mode b ≡ WAITING → Core p t o ms
       → ((k : ℕ) → k ≢ b → InquiryFits t k) → OwedBut t.holderSeq t.holder t.queued t.failed o.owner o.known ms b → ((k : ℕ) → Ascending k (t.inquired k) ms) → Invariant p (yielded (view t ms) b)
   unfolding yielded update
   yielded-kept t o b ms x y z w c m ow ascending = (
-    ghost b 0 3 o.known,
+    ghost b 0 YIELDED o.known,
     record {
       core = yielded-core p t o.known b ms (fix p t o ms b 0 2 x y z c) w;
       inquiriesFit = λ k. by-bool (eqb k b) (λ e. rw e (λ h. absurd (h refl))) (λ e. rw e (m k (eqb-false k b e)));
@@ -43,7 +43,7 @@ module _ (p : Setting) where
   )
 
   -- what a site that waits and remembers an inquire of the number it holds knows
-  pub yielder : (t : Local) (o : Ghost) (b n : ℕ) (ms : List Message) → Core p t o ms → t.held b ≢ 0 → t.held b ≤ t.grant → (b ≡ o.owner) × (0 ≡ o.ahead) × (2 ≡ o.stage)
+  pub yielder : (t : Local) (o : Ghost) (b n : ℕ) (ms : List Message) → Core p t o ms → t.held b ≢ 0 → t.held b ≤ t.grant → (b ≡ o.owner) × (0 ≡ o.ahead) × (HELD ≡ o.stage)
   yielder t o b n ms c h l =
       let owner = c .column .holds b h in
       let numberOf : t.held o.owner ≡ t.grant + o.ahead = c .column .number (owner .1) in
@@ -51,14 +51,14 @@ module _ (p : Setting) where
       (owner .0, omega arith, sym (owner .1))
 
   -- the fail may have been the last thing owed to b
-  pub onFail-core : (t : Local) (o : Ghost) (b : ℕ) (ms : List Message) → Core p t o ms → ((k : ℕ) → InquiryFits t k) → (o.stage ≡ 0 → (k : ℕ) → t.queued k ≡ 0)
+  pub onFail-core : (t : Local) (o : Ghost) (b : ℕ) (ms : List Message) → Core p t o ms → ((k : ℕ) → InquiryFits t k) → (o.stage ≡ FREE → (k : ℕ) → t.queued k ≡ 0)
       → OwedBut t.holderSeq t.holder t.queued t.failed o.owner o.known ms b
-      → (o.ahead ≡ 0 → o.stage ≢ 0 → o.stage ≤ 2 → o.known o.owner ≢ 0 → headOf p t.queued ≢ 0 → p .comesBefore (t.queued (headOf p t.queued)) (headOf p t.queued) t.holderSeq t.holder ≡ true → t.inquired o.owner ≢ t.grant → 0 < tally (isInquire o.owner t.grant) ms)
+      → (o.ahead ≡ 0 → o.stage ≢ FREE → o.stage ≤ 2 → o.known o.owner ≢ 0 → headOf p t.queued ≢ 0 → p .comesBefore (t.queued (headOf p t.queued)) (headOf p t.queued) t.holderSeq t.holder ≡ true → t.inquired o.owner ≢ t.grant → 0 < tally (isInquire o.owner t.grant) ms)
       → ((k : ℕ) → Ascending k (t.inquired k) ms) → Invariant p (onFail (view t ms) b)
   unfolding onFail update
   onFail-core t o b ms c inquiriesFit freeQueueEmpty ow asked ascending =
-      by-bool (eqb (t.mode b) 1)
-      (λ e. let w = eqb-true (t.mode b) 1 e in
+      by-bool (eqb (t.mode b) WAITING)
+      (λ e. let w = eqb-true (t.mode b) WAITING e in
       by-bool (eqb (t.held b) 0)
       (λ h. rw (e, h) (plain w (λ i j. absurd (j (eqb-true (t.held b) 0 h)))))
       (λ h. by-bool (eqb (t.inquired b) 0)
@@ -77,12 +77,12 @@ module _ (p : Setting) where
           owed = record {
             inquireOwed = asked;
             ascending = ascending;
-            failOwed = λ k a ne f z. by-bool (eqb k b) (λ y. absurd (eqb-false (t.mode b) 1 e (rw (eqb-true k b y) at (c .asks .knownWaits k a .0)))) (λ y. ow k (eqb-false k b y) a ne f z);
+            failOwed = λ k a ne f z. by-bool (eqb k b) (λ y. absurd (eqb-false (t.mode b) WAITING e (rw (eqb-true k b y) at (c .asks .knownWaits k a .0)))) (λ y. ow k (eqb-false k b y) a ne f z);
           };
         },
       ))
     where
-      plain : t.mode b ≡ 1 → (t.inquired b ≢ 0 → t.held b ≢ 0 → ⊥) → Invariant p (view (withSites t t.mode t.seq (update t.failed b true)) ms)
+      plain : t.mode b ≡ WAITING → (t.inquired b ≢ 0 → t.held b ≢ 0 → ⊥) → Invariant p (view (withSites t t.mode t.seq (update t.failed b true)) ms)
       plain w f = (
         o,
         record {
@@ -139,8 +139,8 @@ module _ (p : Setting) where
       let ascending : (k : ℕ) → Ascending k (t.inquired k) ms = λ k. by-bool (eqb k b)
       (λ e. let kb = eqb-true k b e in rw kb (ascending-low b n (t.inquired b) ms up (rw (eq-eqb b b refl) at (s .owed .ascending b .1))))
       (λ e. rw e at (s .owed .ascending k .1)) in
-      by-bool (eqb (t.mode b) 1)
-      (λ e. let w = eqb-true (t.mode b) 1 e in
+      by-bool (eqb (t.mode b) WAITING)
+      (λ e. let w = eqb-true (t.mode b) WAITING e in
       by-bool (eqb (t.held b) 0)
       (λ h. rw (e, h) (note w c ok up ascending (λ i j. absurd (j (eqb-true (t.held b) 0 h)))))
       (λ h. by-bool (eqb n (t.held b))
@@ -152,7 +152,7 @@ module _ (p : Setting) where
       let nu : t.held o.owner ≡ t.grant + o.ahead = c .column .number (owner .1) in
       let hb : t.held b ≡ t.grant + o.ahead = rw (owner .0) nu in
       eqb-false n (t.held b) i (omega arith))))))
-      (λ e. rw e (drop c ascending (λ ob d0 known ng. eqb-false (t.mode b) 1 e (rw ob at (c .asks .knownWaits o.owner known .0)))))
+      (λ e. rw e (drop c ascending (λ ob d0 known ng. eqb-false (t.mode b) WAITING e (rw ob at (c .asks .knownWaits o.owner known .0)))))
     where
       -- the inquire was not the one that is owed
       drop : Core p t o ms → ((k : ℕ) → Ascending k (t.inquired k) ms) → (o.owner ≡ b → o.ahead ≡ 0 → o.known o.owner ≢ 0 → t.grant ≡ n → ⊥) → Invariant p (view t ms)
@@ -173,7 +173,7 @@ module _ (p : Setting) where
         },
       )
 
-      note : t.mode b ≡ 1 → Core p t o ms → (1 ≤ n) × (n ≤ t.grant) × (p .member b ≡ true) → t.inquired b ≤ n → ((k : ℕ) → Ascending k (t.inquired k) ms)
+      note : t.mode b ≡ WAITING → Core p t o ms → (1 ≤ n) × (n ≤ t.grant) × (p .member b ≡ true) → t.inquired b ≤ n → ((k : ℕ) → Ascending k (t.inquired k) ms)
           → (n ≢ 0 → t.held b ≢ 0 → (n ≡ t.held b) × (t.failed b ≡ false)) → Invariant p (view (withEntries t t.held t.heir (update t.inquired b n)) ms)
       note w c ok up ascending f = (
         o,

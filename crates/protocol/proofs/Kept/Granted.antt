@@ -11,11 +11,9 @@ use Rattle.protocol.specs.Message.{Message, reply, transfer}
 use Rattle.protocol.specs.Setting.{Setting, SettingLaw}
 use Rattle.protocol.specs.Local.{Local, view, withArbiter}
 use Rattle.protocol.specs.Arbiter.{headOf, granted, grantedHead}
-use Rattle.protocol.specs.Site.{remembered}
-use Rattle.protocol.specs.Rig.{requests}
 use Rattle.protocol.proofs.Basics.{by-bool, clash, update-same, update-other}
 use Rattle.protocol.proofs.Lists.{tally-snoc-no, tally-snoc-yes, all-snoc, all-map-not}
-use Rattle.protocol.proofs.Invariant.{Ghost, ghost, carriesPermission, isRequestOf, isFailTo, Ascending, InquiryFits, Fits, Owed, Core, Invariant}
+use Rattle.protocol.proofs.Invariant.{Ghost, FREE, OUT, ghost, carriesPermission, isRequestOf, isFailTo, Ascending, InquiryFits, Fits, Owed, Core, Invariant}
 use Rattle.protocol.proofs.Sending.{ordered-snoc, send-transfer}
 use Rattle.protocol.proofs.Fitting.{fits-change}
 use Rattle.protocol.proofs.Owing.{owed-send}
@@ -31,15 +29,15 @@ module _ (p : Setting) (law : SettingLaw p) where
   pub queued-member : (t : Local) (o : Ghost) (ms : List Message) → Core p t o ms → (i : ℕ) → t.queued i ≢ 0 → p .member i ≡ true
   queued-member t o ms c i h =
       by-bool (eqb i o.owner)
-      (λ e. let io = eqb-true i o.owner e in by-bool (eqb o.stage 0)
-      (λ s. let f = c .arbiter .whenFree (eqb-true o.stage 0 s) in let z = c .arbiter .ownerIsHolder (f .1) in absurd (h (rw (io, z) (c .arbiter .holderNotQueued))))
-      (λ s. rw io (c .arbiter .whenTaken (eqb-false o.stage 0 s) .0)))
+      (λ e. let io = eqb-true i o.owner e in by-bool (eqb o.stage FREE)
+      (λ s. let f = c .arbiter .whenFree (eqb-true o.stage FREE s) in let z = c .arbiter .ownerIsHolder (f .1) in absurd (h (rw (io, z) (c .arbiter .holderNotQueued))))
+      (λ s. rw io (c .arbiter .whenTaken (eqb-false o.stage FREE s) .0)))
       (λ e. by-bool (eqb (o.known i) 0)
       (λ z. absurd (h (c .asks .emptyIfUnknown i (eqb-false i o.owner e) (eqb-true (o.known i) 0 z))))
       (λ z. c .asks .knownWaits i (eqb-false (o.known i) 0 z) .1))
 
-  granted-core : (t : Local) (known : ℕ → ℕ) (k n : ℕ) (ms : List Message) → Core p t (ghost 0 0 0 known) ms → known k ≢ 0 → n ≡ t.seq k
-      → Core p (withArbiter t (suc t.grant) k n (update t.queued k 0)) (ghost k 0 1 known) (ms ++ reply (p .arbiter) k (suc t.grant) ∷ [])
+  granted-core : (t : Local) (known : ℕ → ℕ) (k n : ℕ) (ms : List Message) → Core p t (ghost 0 0 FREE known) ms → known k ≢ 0 → n ≡ t.seq k
+      → Core p (withArbiter t (suc t.grant) k n (update t.queued k 0)) (ghost k 0 OUT known) (ms ++ reply (p .arbiter) k (suc t.grant) ∷ [])
   unfolding update Fits
   granted-core t known k n ms c kk nk =
       let w = c .asks .knownWaits k kk in
@@ -84,7 +82,7 @@ module _ (p : Setting) (law : SettingLaw p) where
         };
       }
 
-  granted-owed : (t : Local) (known : ℕ → ℕ) (k n : ℕ) (ms : List Message) → Core p t (ghost 0 0 0 known) ms → known k ≢ 0 → n ≡ t.queued k → headOf p t.queued ≡ k → OwedWhenFree p t.queued t.failed t.inquired known ms
+  granted-owed : (t : Local) (known : ℕ → ℕ) (k n : ℕ) (ms : List Message) → Core p t (ghost 0 0 FREE known) ms → known k ≢ 0 → n ≡ t.queued k → headOf p t.queued ≡ k → OwedWhenFree p t.queued t.failed t.inquired known ms
       → Owed p (suc t.grant) k n (update t.queued k 0) t.failed t.inquired k 0 1 known (ms ++ reply (p .arbiter) k (suc t.grant) ∷ [])
   granted-owed t known k n ms c kk nq hk l =
       let r = head-of p law t.queued (p .size) in
@@ -105,7 +103,7 @@ module _ (p : Setting) (law : SettingLaw p) where
           (λ e. let ne = eqb-false h k e in let o = update-other t.queued k 0 h ne in
           clash (p .comesBefore (t.queued h) h (t.queued k) k) (rw (o, nq) at b) (asym p law (t.queued k) k (t.queued h) h (a h (f .0) (f .1) (λ z. f .2 (o ∙ z)) ne)))
 
-  pub granted-kept : (t : Local) (known : ℕ → ℕ) (k n : ℕ) (ms : List Message) → Core p t (ghost 0 0 0 known) ms → ((i : ℕ) → InquiryFits t i) → known k ≢ 0 → n ≡ t.queued k → n ≡ t.seq k
+  pub granted-kept : (t : Local) (known : ℕ → ℕ) (k n : ℕ) (ms : List Message) → Core p t (ghost 0 0 FREE known) ms → ((i : ℕ) → InquiryFits t i) → known k ≢ 0 → n ≡ t.queued k → n ≡ t.seq k
       → headOf p t.queued ≡ k → OwedWhenFree p t.queued t.failed t.inquired known ms → Invariant p (granted p (view t ms) k n)
   unfolding granted
   granted-kept t known k n ms c inquiriesFit kk nq nk hk l =
@@ -113,11 +111,11 @@ module _ (p : Setting) (law : SettingLaw p) where
       let lv = granted-owed t known k n ms c kk nq hk l in
       let q1 = update t.queued k 0 in
       by-bool (eqb (headOf p q1) 0)
-      (λ e. rw e (ghost k 0 1 known, record { core = v; inquiriesFit = inquiriesFit; owed = lv; freeQueueEmpty = λ z. absurd (omega arith) }))
+      (λ e. rw e (ghost k 0 OUT known, record { core = v; inquiriesFit = inquiriesFit; owed = lv; freeQueueEmpty = λ z. absurd (omega arith) }))
       (λ e. let f = (head-of p law q1 (p .size)) .found (eqb-false (headOf p q1) 0 e) in
       let mh = queued-member _ _ _ v (headOf p q1) (f .2) in
       rw e (
-        ghost k 0 1 known,
+        ghost k 0 OUT known,
         record {
           inquiriesFit = inquiriesFit;
           owed = owed-send p _ (transfer k (headOf p q1) (suc t.grant)) (λ i. refl) lv;
@@ -131,7 +129,7 @@ module _ (p : Setting) (law : SettingLaw p) where
         },
       ))
 
-  pub grantedHead-kept : (t : Local) (known : ℕ → ℕ) (ms : List Message) → Core p t (ghost 0 0 0 known) ms → ((i : ℕ) → InquiryFits t i) → OwedWhenFree p t.queued t.failed t.inquired known ms → Invariant p (grantedHead p (view t ms))
+  pub grantedHead-kept : (t : Local) (known : ℕ → ℕ) (ms : List Message) → Core p t (ghost 0 0 FREE known) ms → ((i : ℕ) → InquiryFits t i) → OwedWhenFree p t.queued t.failed t.inquired known ms → Invariant p (grantedHead p (view t ms))
   unfolding grantedHead
   grantedHead-kept t known ms c inquiriesFit l =
       let r = head-of p law t.queued (p .size) in
@@ -139,7 +137,7 @@ module _ (p : Setting) (law : SettingLaw p) where
       (λ e. let none-in : (i : ℕ) → t.queued i ≡ 0 = λ i. by-bool (eqb (t.queued i) 0) (λ f. eqb-true (t.queued i) 0 f)
       (λ f. let y = law .siteInRange i (queued-member _ _ _ c i (eqb-false (t.queued i) 0 f)) in r .empty (eqb-true (headOf p t.queued) 0 e) i (y .0) (y .1)) in
       rw e (
-        ghost 0 0 0 known,
+        ghost 0 0 FREE known,
         record {
           core = c;
           inquiriesFit = inquiriesFit;

@@ -11,11 +11,9 @@ use Rattle.protocol.specs.Message.{Message, handOver, inquire, transfer}
 use Rattle.protocol.specs.Setting.{Setting, SettingLaw}
 use Rattle.protocol.specs.Local.{Local, view, withArbiter}
 use Rattle.protocol.specs.Arbiter.{fromHolder, headOf, heirTakesOver, onHandOver}
-use Rattle.protocol.specs.Site.{remembered}
-use Rattle.protocol.specs.Rig.{requests}
 use Rattle.protocol.proofs.Basics.{by-bool, clash, and-split, update-other}
 use Rattle.protocol.proofs.Lists.{All, all-map}
-use Rattle.protocol.proofs.Invariant.{ghost, isHandOver, isFailTo, isInquire, Ordered, Ascending, InquiryFits, Fits, OwedIn, Core, Invariant}
+use Rattle.protocol.proofs.Invariant.{FREE, ghost, isHandOver, isFailTo, isInquire, Ordered, Ascending, InquiryFits, Fits, OwedIn, Core, Invariant}
 use Rattle.protocol.proofs.Sending.{send-inquire, send-transfer}
 use Rattle.protocol.proofs.Fitting.{fix, fits-change}
 use Rattle.protocol.proofs.Owing.{snoc-pos, snoc-zero, ascending-other, ascending-inquire, inquired-low, fix-owed}
@@ -72,7 +70,7 @@ module _ (p : Setting) (law : SettingLaw p) where
   heirTakesOver-kept t x stage known k n ms c inquiriesFit l =
       let v = heard t x stage known k n ms c in
       let q1 = update t.queued x 0 in
-      let s0 : stage ≢ 0 = λ z. let y = c .arbiter .whenFree z .1 in omega arith in
+      let s0 : stage ≢ FREE = λ z. let y = c .arbiter .whenFree z .1 in omega arith in
       let mx = c .arbiter .whenTaken s0 .0 in
       let x1 = law .siteInRange x mx in
       let ov = c .arbiter .handedOver (λ z. omega arith) in

@@ -9,12 +9,10 @@ use borrow.Author.Tests.{eqb-true, eqb-false, eq-eqb, ne-eqb}
 use Rattle.protocol.specs.Helpers.{update, tally}
 use Rattle.protocol.specs.Message.{Message, reply, release, handOver}
 use Rattle.protocol.specs.Setting.{Setting, SettingLaw}
-use Rattle.protocol.specs.Local.{Local, view, withSites, withEntries}
-use Rattle.protocol.specs.Site.{remembered}
-use Rattle.protocol.specs.Rig.{requests}
+use Rattle.protocol.specs.Local.{WAITING, INSIDE, Local, view, withSites, withEntries}
 use Rattle.protocol.proofs.Basics.{by-bool, clash, update-other}
 use Rattle.protocol.proofs.Lists.{tally-snoc, tally-snoc-no, tally-snoc-yes, All, all-snoc, all-map-not}
-use Rattle.protocol.proofs.Invariant.{Ghost, ghost, numberOf, carriesPermission, isRequestOf, isHandOver, situation, InquiryFits, Fits, Column, Core, Invariant}
+use Rattle.protocol.proofs.Invariant.{Ghost, OUT, HELD, RELEASED, ghost, numberOf, carriesPermission, isRequestOf, isHandOver, situation, InquiryFits, Fits, Column, Core, Invariant}
 use Rattle.protocol.proofs.Sending.{ordered-snoc}
 use Rattle.protocol.proofs.Fitting.{fix, fits-change, no-request, all-stage, all-mode}
 use Rattle.protocol.proofs.Owing.{owed-send, fix-owed, ascending-update}
@@ -25,7 +23,7 @@ module _ (p : Setting) (law : SettingLaw p) where
   abbrev departed : Local → ℕ → Local
   departed t k = withEntries (withSites t (update t.mode k 0) t.seq t.failed) (update t.held k 0) (update t.heir k 0) (update t.inquired k 0)
 
-  leave-stranger : (t : Local) (o : Ghost) (k : ℕ) (ms : List Message) → t.mode k ≡ 2 → p .member k ≡ false → Core p t o ms → Core p (departed t k) o ms
+  leave-stranger : (t : Local) (o : Ghost) (k : ℕ) (ms : List Message) → t.mode k ≡ INSIDE → p .member k ≡ false → Core p t o ms → Core p (departed t k) o ms
   unfolding update
   leave-stranger t o k ms w nm c =
       let nb : (i : ℕ) → p .member i ≡ true → eqb i k ≡ false = λ i m. ne-eqb i k (λ z. clash (p .member i) m (rw z nm)) in
@@ -61,33 +59,33 @@ module _ (p : Setting) (law : SettingLaw p) where
       }
 
   -- what is common to both ways to leave: the asks and columns that do not speak of the owner
-  module _ (t : Local) (k d : ℕ) (known : ℕ → ℕ) (ms : List Message) (w : t.mode k ≡ 2) (c : Core p t (ghost k d 2 known) ms) where
+  module _ (t : Local) (k d : ℕ) (known : ℕ → ℕ) (ms : List Message) (w : t.mode k ≡ INSIDE) (c : Core p t (ghost k d HELD known) ms) where
     nk : (i : ℕ) → known i ≢ 0 → eqb i k ≡ false
-    nk i h = ne-eqb i k (λ z. let y = c .asks .knownWaits i h .0 in let u : t.mode i ≡ 2 = rw z w in omega arith)
+    nk i h = ne-eqb i k (λ z. let y = c .asks .knownWaits i h .0 in let u : t.mode i ≡ INSIDE = rw z w in omega arith)
 
     known-none : known k ≡ 0
     known-none = by-bool (eqb (known k) 0) (λ e. eqb-true (known k) 0 e) (λ e. clash (eqb k k) (eq-eqb k k refl) (nk k (eqb-false (known k) 0 e)))
 
     none-of : tally (isRequestOf k) ms ≡ 0
-    none-of = no-request p (situation t k d 2) k ms (inl (λ z. omega arith)) (c .underWay .fit)
+    none-of = no-request p (situation t k d HELD) k ms (inl (λ z. omega arith)) (c .underWay .fit)
 
-    l-inside : (owner stage : ℕ) (i : ℕ) → (departed t k) .mode i ≡ 2 → p .member i ≡ true → (i ≡ owner) × (stage ≡ 2)
+    l-inside : (owner stage : ℕ) (i : ℕ) → (departed t k) .mode i ≡ INSIDE → p .member i ≡ true → (i ≡ owner) × (stage ≡ HELD)
     unfolding update
     l-inside owner stage i = by-bool (eqb i k) (λ e. rw e (λ x. absurd (omega arith))) (λ e. rw e (λ x y. absurd (eqb-false i k e (c .asks .insideHolds i x y .0))))
 
-    l-wait : (i : ℕ) → (departed t k) .mode i ≡ 1 → 1 ≤ t.seq i
+    l-wait : (i : ℕ) → (departed t k) .mode i ≡ WAITING → 1 ≤ t.seq i
     unfolding update
     l-wait i = by-bool (eqb i k) (λ e. rw e (λ x. absurd (omega arith))) (λ e. rw e (c .asks .waitingNumbered i))
 
-    l-calm : (i : ℕ) → (departed t k) .mode i ≢ 1 → (t.seq i ≡ 0) × (t.failed i ≡ false)
+    l-calm : (i : ℕ) → (departed t k) .mode i ≢ WAITING → (t.seq i ≡ 0) × (t.failed i ≡ false)
     unfolding update
     l-calm i = by-bool (eqb i k) (λ e. rw e (λ x. rw (eqb-true i k e) (c .asks .notWaitingClear k (λ z. omega arith)))) (λ e. rw e (c .asks .notWaitingClear i))
 
-    l-known : (i : ℕ) → known i ≢ 0 → ((departed t k) .mode i ≡ 1) × (p .member i ≡ true) × (known i ≡ 1)
+    l-known : (i : ℕ) → known i ≢ 0 → ((departed t k) .mode i ≡ WAITING) × (p .member i ≡ true) × (known i ≡ 1)
     unfolding update
     l-known i h = rw (nk i h) (c .asks .knownWaits i h)
 
-    l-col : (owner d′ stage : ℕ) → stage ≢ 2 → Column p t.grant t.queued ((departed t k) .mode) ((departed t k) .held) ((departed t k) .heir) ((departed t k) .inquired) owner d′ stage
+    l-col : (owner d′ stage : ℕ) → stage ≢ HELD → Column p t.grant t.queued ((departed t k) .mode) ((departed t k) .held) ((departed t k) .heir) ((departed t k) .inquired) owner d′ stage
     unfolding update
     l-col owner d′ stage s2 = record {
       holds = λ i. by-bool (eqb i k) (λ e. rw e (λ x. absurd (x refl))) (λ e. rw e (λ x. absurd (eqb-false i k e (c .column .holds i x .0))));
@@ -100,7 +98,7 @@ module _ (p : Setting) (law : SettingLaw p) where
     unfolding update
     l-all owner d′ stage a = all-mode p (situation t owner d′ stage) _ _ k ms (λ i ne. (rw (ne-eqb i k ne), refl)) none-of a
 
-    leave-plain : Core p (departed t k) (ghost k d 4 known) (ms ++ release k (t.held k) ∷ [])
+    leave-plain : Core p (departed t k) (ghost k d RELEASED known) (ms ++ release k (t.held k) ∷ [])
     unfolding update Fits
     leave-plain =
         let z0 = known-none in
@@ -124,13 +122,13 @@ module _ (p : Setting) (law : SettingLaw p) where
             permissions = rw (tally-snoc-yes carriesPermission ms (release k (t.held k)) refl) (ap suc (c .underWay .permissions));
             requests = λ i. by-bool (eqb i k) (λ e. rw e (λ x. absurd (omega arith))) (λ e. rw (e, tally-snoc-no (isRequestOf i) ms (release k (t.held k)) refl) (c .underWay .requests i));
             handOvers = λ u. let z = c .underWay .handOvers u in let y = tally-snoc (isHandOver t.holder k t.grant) ms (release k (t.held k)) in omega arith;
-            fit = all-snoc _ ms (release k (t.held k)) (l-all k d 4 (all-stage p t k d 2 4 ms (c .underWay .permissions) (c .underWay .fit))) (refl, c .column .number refl, refl);
+            fit = all-snoc _ ms (release k (t.held k)) (l-all k d 4 (all-stage p t k d HELD RELEASED ms (c .underWay .permissions) (c .underWay .fit))) (refl, c .column .number refl, refl);
             ordered = ordered-snoc ms (release k (t.held k)) (λ i e. rw (eqb-true i k e) none-of) (c .underWay .ordered);
           };
         }
 
-  leave-heir : (t : Local) (k x : ℕ) (known : ℕ → ℕ) (ms : List Message) → t.mode k ≡ 2 → t.queued x ≢ 0 → Core p t (ghost k 0 2 known) ms
-      → Core p (departed t k) (ghost x 1 1 known) ((ms ++ reply k x (suc (t.held k)) ∷ []) ++ handOver k x (t.held k) ∷ [])
+  leave-heir : (t : Local) (k x : ℕ) (known : ℕ → ℕ) (ms : List Message) → t.mode k ≡ INSIDE → t.queued x ≢ 0 → Core p t (ghost k 0 HELD known) ms
+      → Core p (departed t k) (ghost x 1 OUT known) ((ms ++ reply k x (suc (t.held k)) ∷ []) ++ handOver k x (t.held k) ∷ [])
   unfolding update Fits
   leave-heir t k x known ms w qx c =
       let busy = c .arbiter .whenTaken (λ y. omega arith) in
@@ -185,7 +183,7 @@ module _ (p : Setting) (law : SettingLaw p) where
   unfolding update
   inquiriesFit-left t k i m = by-bool (eqb i k) (λ e. rw e (λ x. absurd (x refl))) (λ e. rw e m)
 
-  pub leaveSeen-kept : (t : Local) (k : ℕ) (ms : List Message) → t.mode k ≡ 2 → Invariant p (view t ms) → Invariant p (leaveSeen p (view t ms) k)
+  pub leaveSeen-kept : (t : Local) (k : ℕ) (ms : List Message) → t.mode k ≡ INSIDE → Invariant p (view t ms) → Invariant p (leaveSeen p (view t ms) k)
   unfolding leaveSeen
   leaveSeen-kept t k ms w (o, s) =
       let c = s .core in
@@ -197,7 +195,7 @@ module _ (p : Setting) (law : SettingLaw p) where
       let ne : eqb (t.held k) 0 ≡ false = ne-eqb (t.held k) 0 (λ z. omega arith) in
       by-bool (eqb (t.heir k) 0)
       (λ h. rw (e, ne, h) (
-        ghost k o.ahead 4 o.known,
+        ghost k o.ahead RELEASED o.known,
         record {
           core = leave-plain t k o.ahead o.known ms w c1;
           inquiriesFit = fits-still;
@@ -208,7 +206,7 @@ module _ (p : Setting) (law : SettingLaw p) where
       ))
       (λ h. let x = c1 .column .heirs k (eqb-false (t.heir k) 0 h) in
       rw (e, ne, h) (
-        ghost (t.heir k) 1 1 o.known,
+        ghost (t.heir k) 1 OUT o.known,
         record {
           core = leave-heir t k (t.heir k) o.known ms w (x .3) (fix p t o ms k 0 2 (y .0) (sym (x .2)) (sym (y .1)) c);
           inquiriesFit = fits-still;
@@ -227,7 +225,7 @@ module _ (p : Setting) (law : SettingLaw p) where
           owed = record {
             failOwed = s .owed .failOwed;
             ascending = ascending-update p t.inquired k 0 ms (omega arith) (s .owed .ascending);
-            inquireOwed = λ u v x d. rw (update-other t.inquired k 0 o.owner (λ z. let y = c .asks .knownWaits o.owner d .0 in let a : t.mode o.owner ≡ 2 = rw z w in omega arith)) (s .owed .inquireOwed u v x d);
+            inquireOwed = λ u v x d. rw (update-other t.inquired k 0 o.owner (λ z. let y = c .asks .knownWaits o.owner d .0 in let a : t.mode o.owner ≡ INSIDE = rw z w in omega arith)) (s .owed .inquireOwed u v x d);
           };
         },
       ))

@@ -9,24 +9,23 @@ use borrow.Author.Tests.{eqb-true, eqb-false, eq-eqb, ne-eqb}
 use Rattle.protocol.specs.Helpers.{update, all, tally}
 use Rattle.protocol.specs.Message.{Message, release, yield}
 use Rattle.protocol.specs.Setting.{Setting, SettingLaw}
-use Rattle.protocol.specs.Local.{Local, view, withArbiter}
+use Rattle.protocol.specs.Local.{WAITING, Local, view, withArbiter}
 use Rattle.protocol.specs.Arbiter.{headOf, earlyRelease, onRelease, onYield}
-use Rattle.protocol.specs.Site.{remembered}
 use Rattle.protocol.specs.Rig.{requests}
 use Rattle.protocol.proofs.Basics.{by-bool, clash}
 use Rattle.protocol.proofs.Lists.{All, all-map-not}
-use Rattle.protocol.proofs.Invariant.{ghost, carriesPermission, isRequestOf, Ordered, Ascending, situation, InquiryFits, Fits, ArbiterRow, Asks, Column, OwedIn, Core, Invariant}
+use Rattle.protocol.proofs.Invariant.{FREE, HELD, YIELDED, RELEASED, ghost, carriesPermission, isRequestOf, Ordered, Ascending, situation, InquiryFits, Fits, ArbiterRow, Asks, Column, OwedIn, Core, Invariant}
 use Rattle.protocol.proofs.Fitting.{fix, fits-change}
 use Rattle.protocol.proofs.Owing.{fix-owed}
 use Rattle.protocol.proofs.Head.{head-of, head-is, head-remove}
 use Rattle.protocol.proofs.Kept.Granted.{grantedHead-kept}
 
 module _ (p : Setting) (law : SettingLaw p) where
-  pub back-home : (t : Local) (k d stage : ℕ) (known : ℕ → ℕ) (ms : List Message) (g′ : ℕ) (q′ : ℕ → ℕ) → stage ≢ 0 → stage ≢ 2 → g′ ≡ t.grant + d
+  pub back-home : (t : Local) (k d stage : ℕ) (known : ℕ → ℕ) (ms : List Message) (g′ : ℕ) (q′ : ℕ → ℕ) → stage ≢ FREE → stage ≢ HELD → g′ ≡ t.grant + d
       → ((i : ℕ) → i ≢ k → q′ i ≡ t.queued i) → (known k ≢ 0 → q′ k ≡ t.seq k) → (known k ≡ 0 → q′ k ≡ 0)
       → ArbiterRow p t.grant t.holder t.holderSeq t.queued k d stage → Asks p t.holderSeq t.queued t.mode t.seq t.failed k d stage known → Column p t.grant t.queued t.mode t.held t.heir t.inquired k d stage
-      → tally carriesPermission ms ≡ 0 → ((i : ℕ) → t.mode i ≡ 1 → p .member i ≡ true → tally (isRequestOf i) ms + known i ≡ 1) → All (Fits p (situation t k d stage)) ms → Ordered ms
-      → Core p (withArbiter t g′ 0 0 q′) (ghost 0 0 0 known) ms
+      → tally carriesPermission ms ≡ 0 → ((i : ℕ) → t.mode i ≡ WAITING → p .member i ≡ true → tally (isRequestOf i) ms + known i ≡ 1) → All (Fits p (situation t k d stage)) ms → Ordered ms
+      → Core p (withArbiter t g′ 0 0 q′) (ghost 0 0 FREE known) ms
   back-home t k d stage known ms g′ q′ s0 s2 gd qo qy qn a b c permissions requests all ordered =
       let k1 = law .siteInRange k (a .whenTaken s0 .0) in
       let known-none : known 0 ≡ 0 = by-bool (eqb (known 0) 0) (λ e. eqb-true (known 0) 0 e) (λ e. let y = law .siteInRange 0 (b .knownWaits 0 (eqb-false (known 0) 0 e) .1) in absurd (omega arith)) in
@@ -69,8 +68,8 @@ module _ (p : Setting) (law : SettingLaw p) where
         };
       }
 
-  release-fixed : (t : Local) (k d : ℕ) (known : ℕ → ℕ) (n : ℕ) (ms : List Message) → Core p t (ghost k d 4 known) (release k n ∷ ms) → ((i : ℕ) → InquiryFits t i)
-      → OwedIn p t (ghost k d 4 known) (release k n ∷ ms) → Invariant p (onRelease p (view t ms) k n)
+  release-fixed : (t : Local) (k d : ℕ) (known : ℕ → ℕ) (n : ℕ) (ms : List Message) → Core p t (ghost k d RELEASED known) (release k n ∷ ms) → ((i : ℕ) → InquiryFits t i)
+      → OwedIn p t (ghost k d RELEASED known) (release k n ∷ ms) → Invariant p (onRelease p (view t ms) k n)
   unfolding onRelease earlyRelease All Fits Ordered tally update Ascending
   release-fixed t k d known n ms c inquiriesFit l =
       let ik : (i : ℕ) → known i ≢ 0 → i ≢ k = λ i x z. x (ap known z ∙ c .asks .releasedLeft refl .0) in
@@ -98,8 +97,8 @@ module _ (p : Setting) (law : SettingLaw p) where
       let ok = s .core .underWay .fit .0 in
       release-fixed t k o.ahead o.known n ms (fix p t o (release k n ∷ ms) k o.ahead 4 (ok .0) refl (sym (ok .2)) (s .core)) (s .inquiriesFit) (fix-owed p o.owner o.ahead o.stage k o.ahead 4 (ok .0) refl (sym (ok .2)) (s .owed))
 
-  yield-fixed : (t : Local) (k : ℕ) (known : ℕ → ℕ) (n : ℕ) (ms : List Message) → Core p t (ghost k 0 3 known) (yield k n ∷ ms) → ((i : ℕ) → InquiryFits t i)
-      → OwedIn p t (ghost k 0 3 known) (yield k n ∷ ms) → Invariant p (onYield p (view t ms) k n)
+  yield-fixed : (t : Local) (k : ℕ) (known : ℕ → ℕ) (n : ℕ) (ms : List Message) → Core p t (ghost k 0 YIELDED known) (yield k n ∷ ms) → ((i : ℕ) → InquiryFits t i)
+      → OwedIn p t (ghost k 0 YIELDED known) (yield k n ∷ ms) → Invariant p (onYield p (view t ms) k n)
   unfolding onYield All Fits Ordered tally update Ascending
   yield-fixed t k known n ms c inquiriesFit l =
       let ok = c .underWay .fit .0 in

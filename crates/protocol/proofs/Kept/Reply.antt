@@ -9,23 +9,22 @@ use borrow.Author.Tests.{eqb-true, eqb-false, eq-eqb, ne-eqb}
 use Rattle.protocol.specs.Helpers.{update, tally}
 use Rattle.protocol.specs.Message.{Message, reply}
 use Rattle.protocol.specs.Setting.{Setting}
-use Rattle.protocol.specs.Local.{Local, view, withEntries}
-use Rattle.protocol.specs.Site.{remembered, onReply}
-use Rattle.protocol.specs.Rig.{requests}
+use Rattle.protocol.specs.Local.{WAITING, Local, view, withEntries}
+use Rattle.protocol.specs.Site.{onReply}
 use Rattle.protocol.proofs.Basics.{by-bool}
 use Rattle.protocol.proofs.Lists.{All}
-use Rattle.protocol.proofs.Invariant.{ghost, carriesPermission, Ordered, Ascending, InquiryFits, Fits, OwedIn, Core, Invariant}
+use Rattle.protocol.proofs.Invariant.{OUT, HELD, ghost, carriesPermission, Ordered, Ascending, InquiryFits, Fits, OwedIn, Core, Invariant}
 use Rattle.protocol.proofs.Fitting.{fix, all-stage}
 use Rattle.protocol.proofs.Owing.{fix-owed, ascending-update}
 use Rattle.protocol.proofs.Kept.Fail.{yielded-kept}
 use Rattle.protocol.proofs.Kept.Entered.{entered-kept}
 
 module _ (p : Setting) where
-  module _ (t : Local) (b d : ℕ) (known : ℕ → ℕ) (f n : ℕ) (ms : List Message) (c : Core p t (ghost b d 1 known) (reply f b n ∷ ms)) where
+  module _ (t : Local) (b d : ℕ) (known : ℕ → ℕ) (f n : ℕ) (ms : List Message) (c : Core p t (ghost b d OUT known) (reply f b n ∷ ms)) where
     afterReply : Local
     afterReply = withEntries t (update t.held b n) t.heir (update t.inquired b (cond (eqb (t.inquired b) n) n 0))
 
-    reply-core : Core p afterReply (ghost b d 2 known) ms
+    reply-core : Core p afterReply (ghost b d HELD known) ms
     unfolding afterReply update Fits All Ordered tally
     reply-core =
         let ok = c .underWay .fit .0 in
@@ -60,7 +59,7 @@ module _ (p : Setting) where
             permissions = let z : tally carriesPermission ms ≡ 0 = omega arith in z;
             requests = c .underWay .requests;
             handOvers = c .underWay .handOvers;
-            fit = all-stage p t b d 1 2 ms (omega arith) (c .underWay .fit .1);
+            fit = all-stage p t b d OUT HELD ms (omega arith) (c .underWay .fit .1);
             ordered = c .underWay .ordered .1;
           };
         }
@@ -69,7 +68,7 @@ module _ (p : Setting) where
     unfolding afterReply update
     reply-inquiriesFit m k ne = rw (ne-eqb k b ne) (m k)
 
-    reply-owed : OwedIn p t (ghost b d 1 known) (reply f b n ∷ ms) → OwedIn p afterReply (ghost b d 2 known) ms
+    reply-owed : OwedIn p t (ghost b d OUT known) (reply f b n ∷ ms) → OwedIn p afterReply (ghost b d HELD known) ms
     unfolding afterReply update All Fits tally Ascending
     reply-owed l =
         let ok = c .underWay .fit .0 in
@@ -80,7 +79,7 @@ module _ (p : Setting) where
           ascending = ascending-update p t.inquired b _ ms (by-bool (eqb (t.inquired b) n) (λ e. rw e (let y = eqb-true (t.inquired b) n e in omega arith)) (λ e. rw e (omega arith))) (λ k. l .ascending k .1);
         }
 
-    reply-fixed : ((i : ℕ) → InquiryFits t i) → (enters : Bool) → OwedIn p t (ghost b d 1 known) (reply f b n ∷ ms) → Invariant p (onReply p (view t ms) b n enters)
+    reply-fixed : ((i : ℕ) → InquiryFits t i) → (enters : Bool) → OwedIn p t (ghost b d OUT known) (reply f b n ∷ ms) → Invariant p (onReply p (view t ms) b n enters)
     unfolding onReply afterReply update All Fits tally
     reply-fixed m enters lv =
         let l = reply-owed lv in
@@ -89,16 +88,16 @@ module _ (p : Setting) where
         let h0 : eqb (t.held b) 0 ≡ true = by-bool (eqb (t.held b) 0) (λ e. e) (λ e. let y = c .column .holds b (eqb-false _ _ e) .1 in absurd (omega arith)) in
         let bb = eq-eqb b b refl in
         let n0 : 1 ≤ n = let z = c .arbiter .whenTaken (λ y. omega arith) .3 in omega arith in
-        rw (eq-eqb (t.mode b) 1 (kb .0), kb .1, h0)
+        rw (eq-eqb (t.mode b) WAITING (kb .0), kb .1, h0)
         (by-bool enters
-        (λ e. rw e (entered-kept p afterReply (ghost b d 2 known) b ms (kb .0) (λ z. rw bb (λ y. omega arith)) reply-core (reply-inquiriesFit m) (λ z. absurd (omega arith)) l))
+        (λ e. rw e (entered-kept p afterReply (ghost b d HELD known) b ms (kb .0) (λ z. rw bb (λ y. omega arith)) reply-core (reply-inquiriesFit m) (λ z. absurd (omega arith)) l))
         (λ e. by-bool (t.failed b)
         (λ y. by-bool (eqb (t.inquired b) n)
         (λ i. let ce : eqb (cond (eqb (t.inquired b) n) n 0) 0 ≡ false = rw i (ne-eqb n 0 (λ z. omega arith)) in rw (e, bb, y, ce)
         (let u = c .column .remembered b (λ z. let w = eqb-true (t.inquired b) n i in omega arith) in let w = eqb-true (t.inquired b) n i in
-        yielded-kept p afterReply (ghost b d 2 known) b ms refl (omega arith) refl (kb .0) reply-core (reply-inquiriesFit m) (λ k ne. l .failOwed k) (l .ascending)))
+        yielded-kept p afterReply (ghost b d HELD known) b ms refl (omega arith) refl (kb .0) reply-core (reply-inquiriesFit m) (λ k ne. l .failOwed k) (l .ascending)))
         (λ i. let ce : eqb (cond (eqb (t.inquired b) n) n 0) 0 ≡ true = rw i in rw (e, bb, y, ce) (
-          ghost b d 2 known,
+          ghost b d HELD known,
           record {
             core = reply-core;
             owed = l;
@@ -107,7 +106,7 @@ module _ (p : Setting) where
           },
         )))
         (λ y. rw (e, bb, y) (
-          ghost b d 2 known,
+          ghost b d HELD known,
           record {
             core = reply-core;
             owed = l;

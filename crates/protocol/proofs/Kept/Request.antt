@@ -9,13 +9,11 @@ use borrow.Author.Tests.{eqb-true, eqb-false, eq-eqb, ne-eqb}
 use Rattle.protocol.specs.Helpers.{update, tally}
 use Rattle.protocol.specs.Message.{Message, request, inquire, fail, transfer}
 use Rattle.protocol.specs.Setting.{Setting, SettingLaw}
-use Rattle.protocol.specs.Local.{Local, view, send, withArbiter}
+use Rattle.protocol.specs.Local.{WAITING, Local, view, send, withArbiter}
 use Rattle.protocol.specs.Arbiter.{headOf, beforeHolder, granted, failFormer, inquireOrFail, answers, queuedUp, onRequest}
-use Rattle.protocol.specs.Site.{remembered}
-use Rattle.protocol.specs.Rig.{requests}
 use Rattle.protocol.proofs.Basics.{by-bool, clash, update-same, update-other, update-update}
 use Rattle.protocol.proofs.Lists.{All, all-map}
-use Rattle.protocol.proofs.Invariant.{Ghost, ghost, carriesPermission, isRequestOf, isReturnOf, isHandOver, isFailTo, isInquire, Ordered, Ascending, situation, InquiryFits, Fits, Owed, OwedIn, UnderWayIn, Core, Invariant}
+use Rattle.protocol.proofs.Invariant.{Ghost, FREE, OUT, HELD, YIELDED, RELEASED, ghost, carriesPermission, isRequestOf, isReturnOf, isHandOver, isFailTo, isInquire, Ordered, Ascending, situation, InquiryFits, Fits, Owed, OwedIn, UnderWayIn, Core, Invariant}
 use Rattle.protocol.proofs.Sending.{no, send-fail, send-inquire, send-transfer}
 use Rattle.protocol.proofs.Fitting.{handOver-returns, fix, permission-returns, fits-change}
 use Rattle.protocol.proofs.Owing.{snoc-pos, snoc-keep, snoc-zero, snoc-none, ascending-other, ascending-inquire, inquired-low}
@@ -48,14 +46,14 @@ module _ (p : Setting) (law : SettingLaw p) where
         let ok = c .underWay .fit .0 in
         let f = new-request in
         let ko : o.known o.owner ≡ 0 = rw (← z) (f .0) in
-        let mo : t.mode o.owner ≡ 1 = rw (← z) (ok .0) in
+        let mo : t.mode o.owner ≡ WAITING = rw (← z) (ok .0) in
         let le = c .arbiter .stageRange in
-        by-bool (eqb o.stage 0) (λ e. let y = c .arbiter .whenFree (eqb-true o.stage 0 e) .0 in omega arith)
-        (λ e0. by-bool (eqb o.stage 1) (λ e. c .asks .outKnown (eqb-true o.stage 1 e) ko)
-        (λ e1. by-bool (eqb o.stage 2) (λ e. let y = c .asks .heldInside (eqb-true o.stage 2 e) ko in omega arith)
-        (λ e2. by-bool (eqb o.stage 3) (λ e. c .asks .yieldedFailed (eqb-true o.stage 3 e) .0 ko)
-        (λ e3. let a0 = eqb-false o.stage 0 e0 in let a1 = eqb-false o.stage 1 e1 in let a2 = eqb-false o.stage 2 e2 in let a3 = eqb-false o.stage 3 e3 in
-        let s4 : o.stage ≡ 4 = omega arith in
+        by-bool (eqb o.stage FREE) (λ e. let y = c .arbiter .whenFree (eqb-true o.stage FREE e) .0 in omega arith)
+        (λ e0. by-bool (eqb o.stage OUT) (λ e. c .asks .outKnown (eqb-true o.stage OUT e) ko)
+        (λ e1. by-bool (eqb o.stage HELD) (λ e. let y = c .asks .heldInside (eqb-true o.stage HELD e) ko in omega arith)
+        (λ e2. by-bool (eqb o.stage YIELDED) (λ e. c .asks .yieldedFailed (eqb-true o.stage YIELDED e) .0 ko)
+        (λ e3. let a0 = eqb-false o.stage FREE e0 in let a1 = eqb-false o.stage OUT e1 in let a2 = eqb-false o.stage HELD e2 in let a3 = eqb-false o.stage YIELDED e3 in
+        let s4 : o.stage ≡ RELEASED = omega arith in
         let tk : tally carriesPermission ms ≡ 1 = rw s4 at (c .underWay .permissions) in
         let le = tally-mono _ carriesPermission (isReturnOf o.owner) ms (c .underWay .fit .1) (λ m a e. permission-returns p (situation t o.owner o.ahead o.stage) m a s4 e) in
         let bk : tally (isReturnOf o.owner) ms ≡ 0 = rw (← z) (f .2) in
@@ -111,7 +109,7 @@ module _ (p : Setting) (law : SettingLaw p) where
         }
 
   -- with a holder: only messages that carry nothing go out. All but k were told-owed or will be, or the former head is told-owed now.
-  answers-kept : (t : Local) (o : Ghost) (k old : ℕ) (ms : List Message) → Core p t o ms → ((i : ℕ) → InquiryFits t i) → o.stage ≢ 0 → t.queued k ≢ 0 → (old ≢ 0 → t.queued old ≢ 0)
+  answers-kept : (t : Local) (o : Ghost) (k old : ℕ) (ms : List Message) → Core p t o ms → ((i : ℕ) → InquiryFits t i) → o.stage ≢ FREE → t.queued k ≢ 0 → (old ≢ 0 → t.queued old ≢ 0)
       → headOf p t.queued ≡ k → ((i : ℕ) → o.known i ≢ 0 → i ≢ o.owner → i ≢ k → t.failed i ≡ false → tally (isFailTo i) ms ≡ 0 → (old ≡ i) × (p .comesBefore (t.queued i) i t.holderSeq t.holder ≡ true)) → ((i : ℕ) → Ascending i (t.inquired i) ms)
       → Invariant p (answers p (view t ms) k old)
   unfolding answers failFormer inquireOrFail
@@ -175,11 +173,11 @@ module _ (p : Setting) (law : SettingLaw p) where
 
   -- without a holder the arbiter grants at once
   grant-new : (t : Local) (o : Ghost) (k n : ℕ) (ms : List Message) → Core p t o (request k n ∷ ms) → Core p (withArbiter t t.grant t.holder t.holderSeq (update t.queued k n)) (ghost o.owner o.ahead o.stage (update o.known k 1)) ms
-      → ((i : ℕ) → InquiryFits t i) → (o.stage ≡ 0 → (i : ℕ) → t.queued i ≡ 0) → ((i : ℕ) → Ascending i (t.inquired i) ms) → t.holder ≡ 0 → Invariant p (granted p (view t ms) k n)
+      → ((i : ℕ) → InquiryFits t i) → (o.stage ≡ FREE → (i : ℕ) → t.queued i ≡ 0) → ((i : ℕ) → Ascending i (t.inquired i) ms) → t.holder ≡ 0 → Invariant p (granted p (view t ms) k n)
   unfolding granted All Fits update
   grant-new t o k n ms c v inquiriesFit freeQueueEmpty ascending h0 =
       let ok = c .underWay .fit .0 in
-      let s0 : o.stage ≡ 0 = by-bool (eqb o.stage 0) (λ e. eqb-true o.stage 0 e) (λ e. let y = law .siteInRange t.holder (c .arbiter .whenTaken (eqb-false o.stage 0 e) .1) in absurd (omega arith)) in
+      let s0 : o.stage ≡ FREE = by-bool (eqb o.stage FREE) (λ e. eqb-true o.stage FREE e) (λ e. let y = law .siteInRange t.holder (c .arbiter .whenTaken (eqb-false o.stage FREE e) .1) in absurd (omega arith)) in
       let fr = c .arbiter .whenFree s0 in
       let n1 : 1 ≤ n = let w = c .asks .waitingNumbered k (ok .0) in let y = ok .1 in omega arith in
       let k1 = law .siteInRange k (ok .2) in
@@ -229,7 +227,7 @@ module _ (p : Setting) (law : SettingLaw p) where
       by-bool (eqb t.holder 0)
       (λ e. rw e (grant-new t o k n ms c v (s .inquiriesFit) (s .freeQueueEmpty) ascending (eqb-true t.holder 0 e)))
       (λ e. let h0 = eqb-false t.holder 0 e in
-      let s0 : o.stage ≢ 0 = λ z. let y = c .arbiter .whenFree z in let w = c .arbiter .ownerIsHolder (y .1) in omega arith in
+      let s0 : o.stage ≢ FREE = λ z. let y = c .arbiter .whenFree z in let w = c .arbiter .ownerIsHolder (y .1) in omega arith in
       by-bool (eqb (headOf p q1) k)
       (λ g. rw e (answers-kept _ (ghost o.owner o.ahead o.stage (update o.known k 1)) k (headOf p t.queued) ms v (s .inquiriesFit) s0 (λ z. omega arith)
       (λ z. old-at t k n (headOf p t.queued) (f .4) ((head-of p law t.queued (p .size)) .found z .2))

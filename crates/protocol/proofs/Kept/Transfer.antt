@@ -8,8 +8,7 @@ use Rattle.protocol.specs.Helpers.{update, tally}
 use Rattle.protocol.specs.Message.{Message, transfer}
 use Rattle.protocol.specs.Setting.{Setting, SettingLaw}
 use Rattle.protocol.specs.Local.{Local, view}
-use Rattle.protocol.specs.Site.{remembered, onTransfer}
-use Rattle.protocol.specs.Rig.{requests}
+use Rattle.protocol.specs.Site.{onTransfer}
 use Rattle.protocol.proofs.Basics.{by-bool}
 use Rattle.protocol.proofs.Lists.{All}
 use Rattle.protocol.proofs.Invariant.{numberOf, Ordered, Ascending, Fits, OwedIn, UnderWayIn, Invariant}
