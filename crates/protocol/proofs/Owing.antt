@@ -7,11 +7,12 @@ use native.Mathlib.Omega.{arith}
 use lib.Dec.{eqb}
 use borrow.Author.Tests.{eqb-true, eqb-false, eq-eqb}
 use Rattle.protocol.specs.Helpers.{update, tally, first, withoutFirst}
-use Rattle.protocol.specs.Message.{Message, request, reply, release, handOver, inquire, fail, yield, transfer, between}
+use Rattle.protocol.specs.Message.{Message, inquire, INQUIRE, kind, route, between}
 use Rattle.protocol.specs.Setting.{Setting}
 use Rattle.protocol.proofs.Basics.{by-bool, clash, and-split}
 use Rattle.protocol.proofs.Lists.{tally-snoc, tally-snoc-yes, All, all-map, first-holds}
-use Rattle.protocol.proofs.Invariant.{numberOf, isFailTo, isInquireTo, isInquire, Ascending, Situation, Column, UnderWay, Owed}
+use Rattle.protocol.proofs.Invariant.{siteOf, numberOf, isFailTo, isInquireTo, isInquire, Ascending, Situation, Column, UnderWay, Owed}
+use Rattle.protocol.proofs.Sending.{route-from}
 use Rattle.protocol.proofs.Fitting.{fits-inquire}
 
 module _ {A : Type 0} where
@@ -47,25 +48,19 @@ ascending-snoc k lo (x ∷ ms) m l f a = (
 pub ascending-other : (k lo : ℕ) (ms : List Message) (m : Message) → isInquireTo k m ≡ false → Ascending k lo ms → Ascending k lo (ms ++ m ∷ [])
 ascending-other k lo ms m e a = ascending-snoc k lo ms m (λ z. clash (isInquireTo k m) z e) (λ z. clash (isInquireTo k m) z e) a
 
+-- all inquires to one site go the same way
 inquire-from : (j k : ℕ) (m : Message) → isInquireTo k m ≡ true → between j j k m ≡ true
-inquire-from j k (request i n) e = clash false e refl
-inquire-from j k (reply f i n) e = clash false e refl
-inquire-from j k (release i n) e = clash false e refl
-inquire-from j k (handOver i x n) e = clash false e refl
-inquire-from j k (inquire i n) e = rw (e, eq-eqb j j refl)
-inquire-from j k (fail i) e = clash false e refl
-inquire-from j k (yield i n) e = clash false e refl
-inquire-from j k (transfer i x n) e = clash false e refl
+inquire-from j k m e =
+    let w = and-split (eqb (kind m) INQUIRE) (eqb k (siteOf m)) e in
+    let v = route-from j m (w .0) in
+    rw (v .0, v .1, eq-eqb j j refl, w .1)
 
 inquire-channel : (j a b k : ℕ) (m : Message) → isInquireTo k m ≡ true → between j a b m ≡ true → (a ≡ j) × (b ≡ k)
-inquire-channel j a b k (request i n) e w = clash false e refl
-inquire-channel j a b k (reply f i n) e w = clash false e refl
-inquire-channel j a b k (release i n) e w = clash false e refl
-inquire-channel j a b k (handOver i x n) e w = clash false e refl
-inquire-channel j a b k (inquire i n) e w = let y = and-split (eqb a j) (eqb b i) w in (eqb-true a j (y .0), eqb-true b i (y .1) ∙ sym (eqb-true k i e))
-inquire-channel j a b k (fail i) e w = clash false e refl
-inquire-channel j a b k (yield i n) e w = clash false e refl
-inquire-channel j a b k (transfer i x n) e w = clash false e refl
+inquire-channel j a b k m e u =
+    let w = and-split (eqb (kind m) INQUIRE) (eqb k (siteOf m)) e in
+    let v = route-from j m (w .0) in
+    let c = and-split (eqb a ((route j m) .from)) (eqb b ((route j m) .to)) u in
+    (eqb-true a _ (c .0) ∙ v .0, eqb-true b _ (c .1) ∙ v .1 ∙ sym (eqb-true k (siteOf m) (w .1)))
 
 pub ascending-pull : (j a b k lo : ℕ) (ms : List Message) (m : Message) → first (between j a b) ms ≡ some m → Ascending k lo ms → Ascending k lo (m ∷ withoutFirst (between j a b) ms)
 unfolding Ascending first withoutFirst

@@ -11,7 +11,6 @@ use Rattle.protocol.specs.Helpers.{first, withoutFirst}
 use Rattle.protocol.specs.Message.{Message, between}
 use Rattle.protocol.specs.Rig.{Sent, messagesOf, sentBy, inOrder, channel}
 use Rattle.protocol.proofs.Basics.{by-bool}
-use Rattle.protocol.proofs.Sending.{no}
 
 -- lists
 pub messages-append : (j : ℕ) (xs ys : List Sent) → messagesOf j (xs ++ ys) ≡ messagesOf j xs ++ messagesOf j ys

@@ -1,21 +1,18 @@
 use Prim.Native.Nat.{ℕ, _≤_}
 use mathlib.Core.Path.{_≡_, refl, sym, _∙_}
 use mathlib.Core.Logic.{_≢_}
-use mathlib.Core.Bool.{Bool, true, false}
+use mathlib.Core.Bool.{Bool, true, false, _||_}
 use mathlib.Core.List.{List, [], _∷_, _++_}
 use mathlib.Core.Option.{some}
 use native.Mathlib.Omega.{arith}
 use lib.Dec.{eqb}
 use borrow.Author.Tests.{eqb-true, eq-eqb}
 use Rattle.protocol.specs.Helpers.{tally, first, withoutFirst}
-use Rattle.protocol.specs.Message.{Message, request, reply, release, handOver, inquire, fail, yield, transfer, between}
+use Rattle.protocol.specs.Message.{Message, request, reply, release, handOver, inquire, fail, yield, transfer, REQUEST, RELEASE, INQUIRE, YIELD, HANDOVER, kind, route, between, isBack}
 use Rattle.protocol.specs.Setting.{Setting}
 use Rattle.protocol.proofs.Basics.{by-bool, clash, and-split}
 use Rattle.protocol.proofs.Lists.{tally-cons, tally-snoc, tally-snoc-no, all-snoc, first-holds, tally-without, all-without}
-use Rattle.protocol.proofs.Invariant.{carriesPermission, isRequestOf, isReturnOf, isHandOver, Ordered, Situation, Fits, UnderWay}
-
-pub no {ℓ} : {C : Type ℓ} → true ≡ false → C
-no e = clash true refl e
+use Rattle.protocol.proofs.Invariant.{siteOf, carriesPermission, isRequestOf, isReturnOf, isHandOver, Ordered, Situation, Fits, UnderWay}
 
 pub ordered-snoc : (ms : List Message) (m : Message) → ((i : ℕ) → isReturnOf i m ≡ true → tally (isRequestOf i) ms ≡ 0) → Ordered ms → Ordered (ms ++ m ∷ [])
 unfolding Ordered tally
@@ -41,25 +38,46 @@ ordered-without p (x ∷ ms) m e o =
       ordered-without p ms m e′ (o .1),
     ))
 
+-- from whom and to whom a message goes, by its kind
+unfoldable toArbiter : ℕ → Bool
+toArbiter c = eqb c REQUEST || ((eqb c YIELD || eqb c RELEASE) || eqb c HANDOVER)
+
+route-to : (j : ℕ) (m : Message) → toArbiter (kind m) ≡ true → ((route j m) .from ≡ siteOf m) × ((route j m) .to ≡ j)
+unfolding toArbiter
+route-to j (request k n) e = (refl, refl)
+route-to j (reply f k n) e = clash false e refl
+route-to j (release k n) e = (refl, refl)
+route-to j (handOver k x n) e = (refl, refl)
+route-to j (inquire k n) e = clash false e refl
+route-to j (fail k) e = clash false e refl
+route-to j (yield k n) e = (refl, refl)
+route-to j (transfer k x n) e = clash false e refl
+
+pub route-from : (j : ℕ) (m : Message) → eqb (kind m) INQUIRE ≡ true → ((route j m) .from ≡ j) × ((route j m) .to ≡ siteOf m)
+route-from j (request k n) e = clash false e refl
+route-from j (reply f k n) e = clash false e refl
+route-from j (release k n) e = clash false e refl
+route-from j (handOver k x n) e = clash false e refl
+route-from j (inquire k n) e = (refl, refl)
+route-from j (fail k) e = clash false e refl
+route-from j (yield k n) e = clash false e refl
+route-from j (transfer k x n) e = clash false e refl
+
+-- a request and a return of one site go the same way
 request-from : (j a b i : ℕ) (m : Message) → isRequestOf i m ≡ true → between j a b m ≡ true → (a ≡ i) × (b ≡ j)
-request-from j a b i (request k n) r e = let w = and-split (eqb a k) (eqb b j) e in (eqb-true a k (w .0) ∙ sym (eqb-true i k r), eqb-true b j (w .1))
-request-from j a b i (reply f k n) r e = clash false r refl
-request-from j a b i (release k n) r e = clash false r refl
-request-from j a b i (handOver k x n) r e = clash false r refl
-request-from j a b i (inquire k n) r e = clash false r refl
-request-from j a b i (fail k) r e = clash false r refl
-request-from j a b i (yield k n) r e = clash false r refl
-request-from j a b i (transfer k x n) r e = clash false r refl
+unfolding toArbiter
+request-from j a b i m r e =
+    let w = and-split (eqb (kind m) REQUEST) (eqb i (siteOf m)) r in
+    let v = route-to j m (rw (w .0)) in
+    let c = and-split (eqb a ((route j m) .from)) (eqb b ((route j m) .to)) e in
+    (eqb-true a _ (c .0) ∙ v .0 ∙ sym (eqb-true i (siteOf m) (w .1)), eqb-true b _ (c .1) ∙ v .1)
 
 return-from : (j i : ℕ) (m : Message) → isReturnOf i m ≡ true → between j i j m ≡ true
-return-from j i (request k n) r = clash false r refl
-return-from j i (reply f k n) r = clash false r refl
-return-from j i (release k n) r = rw (r, eq-eqb j j refl)
-return-from j i (handOver k x n) r = rw (r, eq-eqb j j refl)
-return-from j i (inquire k n) r = clash false r refl
-return-from j i (fail k) r = clash false r refl
-return-from j i (yield k n) r = rw (r, eq-eqb j j refl)
-return-from j i (transfer k x n) r = clash false r refl
+unfolding toArbiter
+return-from j i m r =
+    let w = and-split (isBack m || eqb (kind m) HANDOVER) (eqb i (siteOf m)) r in
+    let v = route-to j m (by-bool (eqb (kind m) REQUEST) (λ u. rw u) (λ u. rw u (w .0))) in
+    rw (v .0, v .1, w .1, eq-eqb j j refl)
 
 pulled : (j a b : ℕ) (ms : List Message) (m : Message) → first (between j a b) ms ≡ some m → Ordered ms → (i : ℕ) → isRequestOf i m ≡ true → tally (isReturnOf i) (withoutFirst (between j a b) ms) ≡ 0
 unfolding Ordered first withoutFirst tally

@@ -14,7 +14,7 @@ use Rattle.protocol.specs.Arbiter.{headOf, beforeHolder, granted, failFo
 use Rattle.protocol.proofs.Basics.{by-bool, clash, update-same, update-other, update-update}
 use Rattle.protocol.proofs.Lists.{All, all-map}
 use Rattle.protocol.proofs.Invariant.{Ghost, FREE, OUT, HELD, YIELDED, RELEASED, ghost, carriesPermission, isRequestOf, isReturnOf, isHandOver, isFailTo, isInquire, Ordered, Ascending, situation, InquiryFits, Fits, Owed, OwedIn, UnderWayIn, Core, Invariant}
-use Rattle.protocol.proofs.Sending.{no, send-fail, send-inquire, send-transfer}
+use Rattle.protocol.proofs.Sending.{send-fail, send-inquire, send-transfer}
 use Rattle.protocol.proofs.Fitting.{handOver-returns, fix, permission-returns, fits-change}
 use Rattle.protocol.proofs.Owing.{snoc-pos, snoc-keep, snoc-zero, snoc-none, ascending-other, ascending-inquire, inquired-low}
 use Rattle.protocol.proofs.Head.{head-of, head-is, head-insert}
