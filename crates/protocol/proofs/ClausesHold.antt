@@ -13,11 +13,10 @@ use Rattle.protocol.specs.Setting.{Setting, SettingLaw}
 use Rattle.protocol.specs.Local.{REST, WAITING, INSIDE, Local, View, view}
 use Rattle.protocol.specs.Arbiter.{headOf}
 use Rattle.protocol.proofs.Basics.{by-bool, and-split, count-none, count-one}
-use Rattle.protocol.proofs.Lists.{all-map, all-some, all-none}
+use Rattle.protocol.proofs.Lists.{all-map, all-some, all-none, tally-mono}
 use Rattle.protocol.proofs.Invariant.{Ghost, FREE, OUT, HELD, YIELDED, RELEASED, siteOf, numberOf, heirOf, carriesPermission, isRequestOf, isHandOver, isFailTo, isInquire, Situation, situation, Fits, Core, InvariantWith, Invariant}
 use Rattle.protocol.proofs.Fitting.{fits-permission, permission-replied, permission-released, fits-handOver, no-request}
 use Rattle.protocol.proofs.Kept.Granted.{queued-member}
-use Rattle.protocol.proofs.Kept.Request.{tally-mono}
 use Rattle.protocol.proofs.Clauses.{isReply, isReplyTo, isRelease, isAnyRelease, HandOverTo, FitsTables, Clauses}
 
 -- how the tests of messages follow from one another

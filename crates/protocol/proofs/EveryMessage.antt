@@ -13,10 +13,12 @@ use Rattle.protocol.proofs.Lists.{All, tally-without}
 use Rattle.protocol.proofs.Invariant.{FREE, ghost, isFailTo, isInquire, Ordered, Ascending, Invariant}
 use Rattle.protocol.proofs.Sending.{pull}
 use Rattle.protocol.proofs.Owing.{ascending-pull}
-use Rattle.protocol.proofs.Kept.Fail.{onFail-kept, onInquire-kept}
+use Rattle.protocol.proofs.Kept.Fail.{onFail-kept}
+use Rattle.protocol.proofs.Kept.Inquire.{onInquire-kept}
 use Rattle.protocol.proofs.Kept.Transfer.{onTransfer-kept}
 use Rattle.protocol.proofs.Kept.Reply.{onReply-kept}
-use Rattle.protocol.proofs.Kept.Release.{onRelease-kept, onYield-kept}
+use Rattle.protocol.proofs.Kept.Release.{onRelease-kept}
+use Rattle.protocol.proofs.Kept.Yield.{onYield-kept}
 use Rattle.protocol.proofs.Kept.HandOver.{onHandOver-kept}
 use Rattle.protocol.proofs.Kept.Request.{onRequest-kept}
 

@@ -1,21 +1,19 @@
 -- How a message fits the tables: what a message says by its kind, and one law of how it still fits after a change.
-use Prim.Native.Nat.{ℕ, suc, _+_, _≤_}
-use mathlib.Core.Path.{_≡_, refl, sym, ap, _∙_}
+use Prim.Native.Nat.{ℕ, _+_, _≤_}
+use mathlib.Core.Path.{_≡_, refl, sym, _∙_}
 use mathlib.Core.Logic.{_⊎_, inl, inr, _≢_}
 use mathlib.Core.Bool.{true, false, _&&_, _||_, cond}
 use mathlib.Core.List.{List}
 use native.Mathlib.Omega.{arith}
 use lib.Dec.{eqb}
-use borrow.Author.Tests.{eqb-true, eqb-false, eq-eqb}
-use Rattle.protocol.specs.Helpers.{update, tally}
+use borrow.Author.Tests.{eqb-true, eq-eqb}
+use Rattle.protocol.specs.Helpers.{tally}
 use Rattle.protocol.specs.Message.{Message, request, reply, release, handOver, inquire, fail, yield, transfer, REPLY, RELEASE, YIELD, HANDOVER, kind}
 use Rattle.protocol.specs.Setting.{Setting}
-use Rattle.protocol.specs.Local.{WAITING, INSIDE, Local, view}
-use Rattle.protocol.specs.Site.{yielded}
+use Rattle.protocol.specs.Local.{WAITING, Local}
 use Rattle.protocol.proofs.Basics.{by-bool, clash, and-split}
-use Rattle.protocol.proofs.Lists.{tally-snoc-no, tally-snoc-yes, All, all-snoc, all-map-not, all-none}
-use Rattle.protocol.proofs.Invariant.{Ghost, OUT, HELD, YIELDED, RELEASED, ghost, siteOf, numberOf, heirOf, isForNumber, carriesPermission, isRequestOf, isReturnOf, isHandOver, isInquireTo, Situation, situation, Fits, Core}
-use Rattle.protocol.proofs.Sending.{ordered-snoc}
+use Rattle.protocol.proofs.Lists.{All, all-map-not, all-none}
+use Rattle.protocol.proofs.Invariant.{Ghost, OUT, YIELDED, RELEASED, ghost, siteOf, numberOf, heirOf, isForNumber, carriesPermission, isRequestOf, isReturnOf, isHandOver, isInquireTo, Situation, situation, Fits, Core}
 
 -- the stage of the permission that a message carries
 abbrev pub stageBy : ℕ → ℕ
@@ -140,42 +138,3 @@ module _ (p : Setting) where
       → All (Fits p (record { grant = s.grant; holder = s.holder; queued = s.queued; mode = mode; seq = seq; owner = s.owner; ahead = s.ahead; stage = s.stage })) ms
   all-mode s mode seq b ms f c a = all-map-not _ _ (isRequestOf b) ms c
       (λ m e h. fits-change _ _ m (λ k r. f k (λ z. clash (isRequestOf b m) (rw z at r) e)) (λ z. (refl, refl, refl)) (omega arith) (λ k x z v. v) (λ k x z v w. w v) h) a
-
-  -- b, who holds j and waits, yields it
-  pub yielded-core : (t : Local) (known : ℕ → ℕ) (b : ℕ) (ms : List Message) → Core p t (ghost b 0 HELD known) ms → t.mode b ≡ WAITING
-      → Core p ((yielded (view t ms) b) .tables) (ghost b 0 YIELDED known) ((yielded (view t ms) b) .messages)
-  unfolding yielded update Fits
-  yielded-core t known b ms c w =
-      let busy = c .arbiter .whenTaken (λ z. omega arith) in
-      let kb : known b ≢ 0 = λ z. let y = c .asks .heldInside refl z in omega arith in
-      let k1 = c .asks .knownWaits b kb in
-      let r = c .underWay .requests b w (busy .0) in
-      record {
-        arbiter = record { aheadByOne = c .arbiter .aheadByOne; ownerIsHolder = c .arbiter .ownerIsHolder; handedOver = c .arbiter .handedOver; whenFree = λ z. absurd (omega arith); whenTaken = λ z. busy; stageRange = omega arith; holderNotQueued = c .arbiter .holderNotQueued };
-        asks = record {
-          queuedIfKnown = c .asks .queuedIfKnown;
-          emptyIfUnknown = c .asks .emptyIfUnknown;
-          ownerEntry = c .asks .ownerEntry;
-          outKnown = λ z. absurd (omega arith);
-          heldInside = λ z. absurd (omega arith);
-          yieldedFailed = λ z. (kb, rw (eq-eqb b b refl), refl);
-          releasedLeft = λ z. absurd (omega arith);
-          knownWaits = c .asks .knownWaits;
-          insideHolds = λ k m e. let y = c .asks .insideHolds k m e in let z : t.mode b ≡ INSIDE = rw (← (y .0)) m in absurd (omega arith);
-          waitingNumbered = c .asks .waitingNumbered;
-          notWaitingClear = λ k. by-bool (eqb k b) (λ e. rw e (λ m. absurd (m (rw (eqb-true k b e) w)))) (λ e. rw e (c .asks .notWaitingClear k));
-        };
-        column = record {
-          holds = λ k. by-bool (eqb k b) (λ e. rw e (λ h. absurd (h refl))) (λ e. rw e (λ h. absurd (eqb-false k b e (c .column .holds k h .0))));
-          number = λ z. absurd (omega arith);
-          heirs = λ k. by-bool (eqb k b) (λ e. rw e (λ h. absurd (h refl))) (λ e. rw e (λ h. absurd (eqb-false k b e (c .column .heirs k h .0))));
-          remembered = λ k. by-bool (eqb k b) (λ e. rw e (λ h. absurd (h refl))) (λ e. rw e (c .column .remembered k));
-        };
-        underWay = record {
-          permissions = rw (tally-snoc-yes carriesPermission ms (yield b (t.held b)) refl) (ap suc (c .underWay .permissions));
-          requests = λ k x y. rw (tally-snoc-no (isRequestOf k) ms (yield b (t.held b)) refl) (c .underWay .requests k x y);
-          handOvers = λ z. absurd (z refl);
-          fit = all-snoc _ ms (yield b (t.held b)) (all-stage t b 0 HELD YIELDED ms (c .underWay .permissions) (c .underWay .fit)) (refl, c .column .number refl, refl);
-          ordered = ordered-snoc ms (yield b (t.held b)) (λ i e. rw (eqb-true i b e) (omega arith)) (c .underWay .ordered);
-        };
-      }

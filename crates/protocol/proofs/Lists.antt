@@ -1,4 +1,4 @@
-use Prim.Native.Nat.{ℕ, suc, _+_, _<_}
+use Prim.Native.Nat.{ℕ, suc, _+_, _≤_, _<_}
 use mathlib.Core.Path.{_≡_, refl}
 use mathlib.Core.Bool.{Bool, true, false}
 use mathlib.Core.List.{List, [], _∷_, _++_}
@@ -92,3 +92,24 @@ module _ {A : Type 0} where
       by-bool (p y)
       (λ t. let w : y ≡ x = cc in rw (t, ← w) a)
       (λ t. let ih = all-without p P xs x (rw t at e) (a .1) in rw t (ih .0, (a .0, ih .1)))
+
+  pub snoc-pos : (p : A → Bool) (xs : List A) (x : A) → p x ≡ true → 0 < tally p (xs ++ x ∷ [])
+  snoc-pos p xs x e = rw (tally-snoc-yes p xs x e) (omega arith)
+
+  pub snoc-keep : (p : A → Bool) (xs : List A) (x : A) → 0 < tally p xs → 0 < tally p (xs ++ x ∷ [])
+  snoc-keep p xs x l = let w = tally-snoc p xs x in omega arith
+
+  pub snoc-zero : (p : A → Bool) (xs : List A) (x : A) → tally p (xs ++ x ∷ []) ≡ 0 → tally p xs ≡ 0
+  snoc-zero p xs x l = let w = tally-snoc p xs x in omega arith
+
+  pub snoc-none {ℓ} : {C : Type ℓ} (p : A → Bool) (xs : List A) (x : A) → p x ≡ true → tally p (xs ++ x ∷ []) ≡ 0 → C
+  snoc-none p xs x e l = let w = tally-snoc-yes p xs x e in absurd (omega arith)
+
+  pub tally-mono : (P : A → Type 0) (a b : A → Bool) (xs : List A) → All P xs → ((x : A) → P x → a x ≡ true → b x ≡ true) → tally a xs ≤ tally b xs
+  unfolding All tally
+  tally-mono P a b [] h f = omega arith
+  tally-mono P a b (x ∷ xs) h f =
+      let ih = tally-mono P a b xs (h .1) f in
+      by-bool (a x)
+      (λ e. rw (e, f x (h .0) e) (omega arith))
+      (λ e. by-bool (b x) (λ g. rw (e, g) (omega arith)) (λ g. rw (e, g) ih))

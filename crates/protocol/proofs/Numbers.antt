@@ -14,7 +14,7 @@ use Rattle.protocol.specs.Local.{REST, WAITING, INSIDE, Local, View, vie
 use Rattle.protocol.specs.Arbiter.{fromHolder, headOf, beforeHolder, granted, grantedHead, failFormer, inquireOrFail, answers, queuedUp, onRequest, earlyRelease, onRelease, heirTakesOver, onHandOver, onYield}
 use Rattle.protocol.specs.Site.{yielded, entered, onInquire, onFail, onTransfer, takes, onReply, handled}
 use Rattle.protocol.specs.System.{System, settingOf}
-use Rattle.protocol.specs.Rig.{Row, Sites, Sent, Rig, localOf, rowOf, sentBy, inOrder, channel, Event, ask, leave, deliver, localAt, rowsTaken, asked, left, allHeld, withEffect, delivered, takenOff, step, run, fresh}
+use Rattle.protocol.specs.Rig.{Row, Sent, Rig, rowOf, sentBy, inOrder, channel, Event, ask, leave, deliver, withoutEntries, localAt, rowsTaken, asked, left, allHeld, withEffect, delivered, takenOff, step, run, fresh}
 use Rattle.protocol.proofs.Basics.{by-bool}
 use Rattle.protocol.proofs.Lists.{All, all-snoc, all-map, all-without}
 use Rattle.protocol.proofs.Invariant.{numberOf}
@@ -22,12 +22,16 @@ use Rattle.protocol.proofs.Invariant.{numberOf}
 abbrev pub NumberBelow : ℕ → Message → Type 0
 NumberBelow b m = numberOf m ≤ b
 
-pub record LocalBelow (b : ℕ) (t : Local) : Type 0 where
-  pub grant : t.grant ≤ b
-  pub holderSeq : t.holderSeq ≤ b
-  pub queued : (k : ℕ) → t.queued k ≤ b
-  pub held : (k : ℕ) → t.held k ≤ b
-  pub inquired : (k : ℕ) → t.inquired k ≤ b
+-- of a row
+pub record RowBelow (b : ℕ) (r : Row) : Type 0 where
+  pub grant : r.grant ≤ b
+  pub holderSeq : r.holderSeq ≤ b
+  pub queued : (k : ℕ) → r.queued k ≤ b
+  pub held : (k : ℕ) → r.held k ≤ b
+  pub inquired : (k : ℕ) → r.inquired k ≤ b
+
+abbrev pub LocalBelow : ℕ → Local → Type 0
+LocalBelow b t = RowBelow b (rowOf t)
 
 pub record ViewBelow (b : ℕ) (v : View) : Type 0 where
   pub tables : LocalBelow b v.tables
@@ -37,11 +41,11 @@ update-bounded : (f : ℕ → ℕ) (i x b : ℕ) → x ≤ b → ((k : ℕ) → 
 unfolding update
 update-bounded f i x b l h k = by-bool (eqb k i) (λ e. rw e l) (λ e. rw e (h k))
 
-local-up : (b c : ℕ) (t : Local) → b ≤ c → LocalBelow b t → LocalBelow c t
-local-up b c t l s = record { grant = let z = s .grant in omega arith; holderSeq = let z = s .holderSeq in omega arith; queued = λ k. let z = s .queued k in omega arith; held = λ k. let z = s .held k in omega arith; inquired = λ k. let z = s .inquired k in omega arith }
+row-up : (b c : ℕ) (r : Row) → b ≤ c → RowBelow b r → RowBelow c r
+row-up b c r l s = record { grant = let z = s .grant in omega arith; holderSeq = let z = s .holderSeq in omega arith; queued = λ k. let z = s .queued k in omega arith; held = λ k. let z = s .held k in omega arith; inquired = λ k. let z = s .inquired k in omega arith }
 
 view-up : (b c : ℕ) (v : View) → b ≤ c → ViewBelow b v → ViewBelow c v
-view-up b c v l s = record { tables = local-up b c v.tables l (s .tables); messages = all-map _ _ v.messages (λ m h. omega arith) (s .messages) }
+view-up b c v l s = record { tables = row-up b c (rowOf v.tables) l (s .tables); messages = all-map _ _ v.messages (λ m h. omega arith) (s .messages) }
 
 -- one more message
 send-bounded : (b : ℕ) (v : View) (m : Message) → numberOf m ≤ b → ViewBelow b v → ViewBelow b (send v m)
@@ -99,7 +103,7 @@ module _ (p : Setting) where
   grantedHead-bounded : (b : ℕ) (t : Local) → LocalBelow b t → ViewBelow (suc b) (grantedHead p (view t []))
   unfolding grantedHead
   grantedHead-bounded b t s = by-bool (eqb (headOf p t.queued) 0)
-      (λ e. rw e (nothing (suc b) t (local-up b (suc b) t (omega arith) s)))
+      (λ e. rw e (nothing (suc b) t (row-up b (suc b) (rowOf t) (omega arith) s)))
       (λ e. rw e (granted-bounded b t (headOf p t.queued) (t.queued (headOf p t.queued)) (s .queued (headOf p t.queued)) s))
 
   answers-bounded : (b : ℕ) (t : Local) (k former : ℕ) → LocalBelow b t → ViewBelow b (answers p (view t []) k former)
@@ -132,7 +136,7 @@ module _ (p : Setting) where
       (λ e. rw e (view-up (suc b) (suc (suc b)) _ (omega arith) (grantedHead-bounded b _ (record { grant = s .grant; holderSeq = omega arith; queued = s .queued; held = s .held; inquired = s .inquired }))))
       (λ e. by-bool (eqb n (suc t.grant) && not (eqb (t.queued k) 0))
       (λ f. rw (e, f) (grantedHead-bounded (suc b) _ (record { grant = omega arith; holderSeq = omega arith; queued = update-bounded t.queued k 0 (suc b) (omega arith) (λ i. let z = s .queued i in omega arith); held = λ i. let z = s .held i in omega arith; inquired = λ i. let z = s .inquired i in omega arith })))
-      (λ f. rw (e, f) (nothing _ t (local-up b (suc (suc b)) t (omega arith) s))))
+      (λ f. rw (e, f) (nothing _ t (row-up b (suc (suc b)) (rowOf t) (omega arith) s))))
 
   onHandOver-bounded : (b : ℕ) (t : Local) (k x n : ℕ) → LocalBelow b t → ViewBelow (suc b) (onHandOver p (view t []) k x n)
   unfolding onHandOver heirTakesOver
@@ -142,20 +146,20 @@ module _ (p : Setting) where
       let h = headOf p (update t.queued x 0) in
       by-bool (fromHolder t k n)
       (λ e. by-bool (eqb (t.queued x) 0)
-      (λ z. rw (e, z) (nothing (suc b) t (local-up b (suc b) t (omega arith) s)))
+      (λ z. rw (e, z) (nothing (suc b) t (row-up b (suc b) (rowOf t) (omega arith) s)))
       (λ z. by-bool (eqb h 0)
       (λ f. rw (e, z, f) (nothing (suc b) _ u))
       (λ f. let w = send-bounded (suc b) _ (transfer x h (suc t.grant)) (omega arith) (nothing (suc b) _ u) in
       by-bool (p .comesBefore (update t.queued x 0 h) h (t.queued x) x)
       (λ c. rw (e, z, f, c) (send-bounded (suc b) _ (inquire x (suc t.grant)) (omega arith) w))
       (λ c. rw (e, z, f, c) w))))
-      (λ e. rw e (nothing (suc b) t (local-up b (suc b) t (omega arith) s)))
+      (λ e. rw e (nothing (suc b) t (row-up b (suc b) (rowOf t) (omega arith) s)))
 
   onYield-bounded : (b : ℕ) (t : Local) (k n : ℕ) → LocalBelow b t → ViewBelow (suc b) (onYield p (view t []) k n)
   unfolding onYield
   onYield-bounded b t k n s = by-bool (eqb n t.grant && eqb k t.holder)
       (λ e. rw e (grantedHead-bounded b _ (record { grant = s .grant; holderSeq = omega arith; queued = update-bounded t.queued k t.holderSeq b (s .holderSeq) (s .queued); held = s .held; inquired = s .inquired })))
-      (λ e. rw e (nothing (suc b) t (local-up b (suc b) t (omega arith) s)))
+      (λ e. rw e (nothing (suc b) t (row-up b (suc b) (rowOf t) (omega arith) s)))
 
   onReply-bounded : (b : ℕ) (t : Local) (k n : ℕ) (ent : Bool) → n ≤ b → LocalBelow b t → ViewBelow b (onReply p (view t []) k n ent)
   unfolding onReply
@@ -186,14 +190,6 @@ module _ (p : Setting) where
   handled-bounded b t ent (yield k n) l s = view-up (suc b) _ _ (omega arith) (onYield-bounded b t k n s)
   handled-bounded b t ent (transfer k x n) l s = view-up b _ _ (omega arith) (onTransfer-bounded b t k x n s)
 
--- the whole rig
-pub record RowBelow (b : ℕ) (r : Row) : Type 0 where
-  pub grant : r.grant ≤ b
-  pub holderSeq : r.holderSeq ≤ b
-  pub queued : (k : ℕ) → r.queued k ≤ b
-  pub held : (k : ℕ) → r.held k ≤ b
-  pub inquired : (k : ℕ) → r.inquired k ≤ b
-
 abbrev pub SentBelow : ℕ → Sent → Type 0
 SentBelow b x = numberOf x.message ≤ b
 
@@ -202,15 +198,6 @@ pub record RigBelow (b : ℕ) (r : Rig) : Type 0 where
   pub seq : (k : ℕ) → r.sites.seq k ≤ b
   pub rows : (j : ℕ) → RowBelow b (r.rows j)
   pub underWay : All (SentBelow b) r.underWay
-
-local-of-row : (b : ℕ) (s : Sites) (r : Row) → RowBelow b r → LocalBelow b (localOf s r)
-local-of-row b s r h = record { grant = h .grant; holderSeq = h .holderSeq; queued = h .queued; held = h .held; inquired = h .inquired }
-
-row-of-local : (b : ℕ) (t : Local) → LocalBelow b t → RowBelow b (rowOf t)
-row-of-local b t h = record { grant = h .grant; holderSeq = h .holderSeq; queued = h .queued; held = h .held; inquired = h .inquired }
-
-row-up : (b c : ℕ) (r : Row) → b ≤ c → RowBelow b r → RowBelow c r
-row-up b c r l s = record { grant = let z = s .grant in omega arith; holderSeq = let z = s .holderSeq in omega arith; queued = λ k. let z = s .queued k in omega arith; held = λ k. let z = s .held k in omega arith; inquired = λ k. let z = s .inquired k in omega arith }
 
 all-append : {A : Type 0} (P : A → Type 0) (xs ys : List A) → All P xs → All P ys → All P (xs ++ ys)
 unfolding All
@@ -231,7 +218,7 @@ pub rig-up : (b c : ℕ) (r : Rig) → b ≤ c → RigBelow b r → RigBelow c r
 rig-up b c r l s = record { clock = λ k. let z = s .clock k in omega arith; seq = λ k. let z = s .seq k in omega arith; rows = λ j. row-up b c (r.rows j) l (s .rows j); underWay = all-map _ _ r.underWay (λ x h. omega arith) (s .underWay) }
 
 module _ (y : System) where
-  withoutEntries-bounded : (b : ℕ) (r : Row) (s : ℕ) → RowBelow b r → RowBelow b (record { grant = r.grant; holder = r.holder; holderSeq = r.holderSeq; queued = r.queued; held = update r.held s 0; heir = update r.heir s 0; inquired = update r.inquired s 0 })
+  withoutEntries-bounded : (b : ℕ) (r : Row) (s : ℕ) → RowBelow b r → RowBelow b (withoutEntries r s)
   withoutEntries-bounded b r s h = record { grant = h .grant; holderSeq = h .holderSeq; queued = h .queued; held = update-bounded r.held s 0 b (omega arith) (h .held); inquired = update-bounded r.inquired s 0 b (omega arith) (h .inquired) }
 
   asked-bounded : (b : ℕ) (r : Rig) (s : ℕ) → RigBelow b r → RigBelow (suc b) (asked y r s)
@@ -264,11 +251,11 @@ module _ (y : System) where
   unfolding update
   withEffect-bounded b r rest clock j m h0 c a l =
       let h = rig-up b (suc (suc b)) r (omega arith) h0 in
-      let v = handled-bounded (settingOf y j) b (localAt r j) false m l (local-of-row b r.sites (r.rows j) (h0 .rows j)) in
+      let v = handled-bounded (settingOf y j) b (localAt r j) false m l (h0 .rows j) in
       record {
         clock = λ k. let z = c k in omega arith;
         seq = h .seq;
-        rows = λ i. by-bool (eqb i j) (λ e. rw e (row-of-local _ _ (v .tables))) (λ e. rw e (h .rows i));
+        rows = λ i. by-bool (eqb i j) (λ e. rw e ((v .tables))) (λ e. rw e (h .rows i));
         underWay = all-append _ rest _ (all-map _ _ rest (λ x z. omega arith) a) (all-sentBy _ j _ (v .messages));
       }
 
@@ -284,26 +271,26 @@ module _ (y : System) where
   delivered-bounded b r rest j (fail k) h a l = rig-up b (suc (suc b)) _ (omega arith) (record {
     clock = h .clock;
     seq = h .seq;
-    rows = λ i. row-of-local b _ ((onFail-bounded b (localAt r i) k (local-of-row b r.sites (r.rows i) (h .rows i))) .tables);
-    underWay = all-append _ rest _ a (all-inOrder b _ y.size (λ i. (onFail-bounded b (localAt r i) k (local-of-row b r.sites (r.rows i) (h .rows i))) .messages));
+    rows = λ i. ((onFail-bounded b (localAt r i) k (h .rows i)) .tables);
+    underWay = all-append _ rest _ a (all-inOrder b _ y.size (λ i. (onFail-bounded b (localAt r i) k (h .rows i)) .messages));
   })
   delivered-bounded b r rest j (reply f k n) h0 a l =
       let h = rig-up b (suc (suc b)) r (omega arith) h0 in
-      let v = handled-bounded (settingOf y j) b (localAt r j) (allHeld y (rowsTaken r j k n) k) (reply f k n) l (local-of-row b r.sites (r.rows j) (h0 .rows j)) in
+      let v = handled-bounded (settingOf y j) b (localAt r j) (allHeld y (rowsTaken r j k n) k) (reply f k n) l (h0 .rows j) in
       let m = all-append _ rest _ (all-map _ _ rest (λ x z. omega arith) a) (all-sentBy _ j _ (v .messages)) in
       by-bool (takes (settingOf y j) (localAt r j) k && allHeld y (rowsTaken r j k n) k)
       (λ go. rw go (record {
         clock = h .clock;
         seq = λ i. by-bool (eqb i k) (λ e. rw e (omega arith)) (λ e. rw e (h .seq i));
         underWay = m;
-        rows = λ i. by-bool (eqb i j) (λ e. rw e (row-of-local _ _ (v .tables)))
+        rows = λ i. by-bool (eqb i j) (λ e. rw e ((v .tables)))
             (λ e. rw e (let w = h .rows i in record { grant = w .grant; holderSeq = w .holderSeq; queued = w .queued; held = w .held; inquired = λ x. by-bool (eqb x k) (λ u. rw u (omega arith)) (λ u. rw u (w .inquired x)) }));
       }))
       (λ go. rw go (record {
         clock = h .clock;
         seq = h .seq;
         underWay = m;
-        rows = λ i. by-bool (eqb i j) (λ e. rw e (row-of-local _ _ (v .tables))) (λ e. rw e (h .rows i));
+        rows = λ i. by-bool (eqb i j) (λ e. rw e ((v .tables))) (λ e. rw e (h .rows i));
       }))
 
   takenOff-bounded : (b : ℕ) (r : Rig) (a c : ℕ) (x : Option Sent) → first (channel a c) r.underWay ≡ x → RigBelow b r → RigBelow (suc (suc b)) (takenOff y r a c x)

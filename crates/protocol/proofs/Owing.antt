@@ -1,4 +1,4 @@
-use Prim.Native.Nat.{ℕ, _≤_, _<_}
+use Prim.Native.Nat.{ℕ, _≤_}
 use mathlib.Core.Path.{_≡_, refl, sym, _∙_}
 use mathlib.Core.Bool.{Bool, true, false, cond}
 use mathlib.Core.List.{List, [], _∷_, _++_}
@@ -6,27 +6,14 @@ use mathlib.Core.Option.{some}
 use native.Mathlib.Omega.{arith}
 use lib.Dec.{eqb}
 use borrow.Author.Tests.{eqb-true, eqb-false, eq-eqb}
-use Rattle.protocol.specs.Helpers.{update, tally, first, withoutFirst}
+use Rattle.protocol.specs.Helpers.{update, first, withoutFirst}
 use Rattle.protocol.specs.Message.{Message, inquire, INQUIRE, kind, route, between}
 use Rattle.protocol.specs.Setting.{Setting}
 use Rattle.protocol.proofs.Basics.{by-bool, clash, and-split}
-use Rattle.protocol.proofs.Lists.{tally-snoc, tally-snoc-yes, All, all-map, first-holds}
+use Rattle.protocol.proofs.Lists.{All, all-map, first-holds, snoc-keep, snoc-zero}
 use Rattle.protocol.proofs.Invariant.{siteOf, numberOf, isFailTo, isInquireTo, isInquire, Ascending, Situation, Column, UnderWay, Owed}
 use Rattle.protocol.proofs.Sending.{route-from}
 use Rattle.protocol.proofs.Fitting.{fits-inquire}
-
-module _ {A : Type 0} where
-  pub snoc-pos : (p : A → Bool) (xs : List A) (x : A) → p x ≡ true → 0 < tally p (xs ++ x ∷ [])
-  snoc-pos p xs x e = rw (tally-snoc-yes p xs x e) (omega arith)
-
-  pub snoc-keep : (p : A → Bool) (xs : List A) (x : A) → 0 < tally p xs → 0 < tally p (xs ++ x ∷ [])
-  snoc-keep p xs x l = let w = tally-snoc p xs x in omega arith
-
-  pub snoc-zero : (p : A → Bool) (xs : List A) (x : A) → tally p (xs ++ x ∷ []) ≡ 0 → tally p xs ≡ 0
-  snoc-zero p xs x l = let w = tally-snoc p xs x in omega arith
-
-  pub snoc-none {ℓ} : {C : Type ℓ} (p : A → Bool) (xs : List A) (x : A) → p x ≡ true → tally p (xs ++ x ∷ []) ≡ 0 → C
-  snoc-none p xs x e l = let w = tally-snoc-yes p xs x e in absurd (omega arith)
 
 pub ascending-low : (k lo lo′ : ℕ) (ms : List Message) → lo′ ≤ lo → Ascending k lo ms → Ascending k lo′ ms
 unfolding Ascending

@@ -12,11 +12,11 @@ use Rattle.protocol.specs.Setting.{Setting, SettingLaw}
 use Rattle.protocol.specs.Local.{Local, view, withArbiter}
 use Rattle.protocol.specs.Arbiter.{fromHolder, headOf, heirTakesOver, onHandOver}
 use Rattle.protocol.proofs.Basics.{by-bool, clash, and-split, update-other}
-use Rattle.protocol.proofs.Lists.{All, all-map}
+use Rattle.protocol.proofs.Lists.{All, all-map, snoc-pos, snoc-zero}
 use Rattle.protocol.proofs.Invariant.{FREE, ghost, isHandOver, isFailTo, isInquire, Ordered, Ascending, InquiryFits, Fits, OwedIn, Core, Invariant}
 use Rattle.protocol.proofs.Sending.{send-inquire, send-transfer}
 use Rattle.protocol.proofs.Fitting.{fix, fits-change}
-use Rattle.protocol.proofs.Owing.{snoc-pos, snoc-zero, ascending-other, ascending-inquire, inquired-low, fix-owed}
+use Rattle.protocol.proofs.Owing.{ascending-other, ascending-inquire, inquired-low, fix-owed}
 use Rattle.protocol.proofs.Head.{head-of, head-remove}
 use Rattle.protocol.proofs.Kept.Granted.{queued-member}
 

@@ -16,7 +16,7 @@ use Rattle.protocol.proofs.Lists.{All}
 use Rattle.protocol.proofs.Invariant.{OUT, HELD, ghost, carriesPermission, Ordered, Ascending, InquiryFits, Fits, OwedIn, Core, Invariant}
 use Rattle.protocol.proofs.Fitting.{fix, all-stage}
 use Rattle.protocol.proofs.Owing.{fix-owed, ascending-update}
-use Rattle.protocol.proofs.Kept.Fail.{yielded-kept}
+use Rattle.protocol.proofs.Kept.Yielded.{yielded-kept}
 use Rattle.protocol.proofs.Kept.Entered.{entered-kept}
 
 module _ (p : Setting) where

@@ -1,7 +1,7 @@
 use Prim.Native.Nat.{ℕ, _≤_}
 use mathlib.Core.Path.{_≡_, refl, sym, _∙_}
 use mathlib.Core.Logic.{_≢_}
-use mathlib.Core.Bool.{Bool, true, false, not, _&&_, cond}
+use mathlib.Core.Bool.{true, false, not, _&&_, cond}
 use mathlib.Core.List.{List, [], _∷_, _++_}
 use native.Mathlib.Omega.{arith}
 use lib.Dec.{eqb}
@@ -12,23 +12,13 @@ use Rattle.protocol.specs.Setting.{Setting, SettingLaw}
 use Rattle.protocol.specs.Local.{WAITING, Local, view, send, withArbiter}
 use Rattle.protocol.specs.Arbiter.{headOf, beforeHolder, granted, failFormer, inquireOrFail, answers, queuedUp, onRequest}
 use Rattle.protocol.proofs.Basics.{by-bool, clash, update-same, update-other, update-update}
-use Rattle.protocol.proofs.Lists.{All, all-map}
+use Rattle.protocol.proofs.Lists.{All, all-map, snoc-pos, snoc-keep, snoc-zero, snoc-none, tally-mono}
 use Rattle.protocol.proofs.Invariant.{Ghost, FREE, OUT, HELD, YIELDED, RELEASED, ghost, carriesPermission, isRequestOf, isReturnOf, isHandOver, isFailTo, isInquire, Ordered, Ascending, situation, InquiryFits, Fits, Owed, OwedIn, UnderWayIn, Core, Invariant}
 use Rattle.protocol.proofs.Sending.{send-fail, send-inquire, send-transfer}
 use Rattle.protocol.proofs.Fitting.{handOver-returns, fix, permission-returns, fits-change}
-use Rattle.protocol.proofs.Owing.{snoc-pos, snoc-keep, snoc-zero, snoc-none, ascending-other, ascending-inquire, inquired-low}
+use Rattle.protocol.proofs.Owing.{ascending-other, ascending-inquire, inquired-low}
 use Rattle.protocol.proofs.Head.{head-of, head-is, head-insert}
 use Rattle.protocol.proofs.Kept.Granted.{OwedWhenFree, queued-member, granted-kept}
-
-module _ {A : Type 0} where
-  pub tally-mono : (P : A → Type 0) (a b : A → Bool) (xs : List A) → All P xs → ((x : A) → P x → a x ≡ true → b x ≡ true) → tally a xs ≤ tally b xs
-  unfolding All tally
-  tally-mono P a b [] h f = omega arith
-  tally-mono P a b (x ∷ xs) h f =
-      let ih = tally-mono P a b xs (h .1) f in
-      by-bool (a x)
-      (λ e. rw (e, f x (h .0) e) (omega arith))
-      (λ e. by-bool (b x) (λ g. rw (e, g) (omega arith)) (λ g. rw (e, g) ih))
 
 module _ (p : Setting) (law : SettingLaw p) where
   module _ (t : Local) (o : Ghost) (k n : ℕ) (ms : List Message) (c : Core p t o (request k n ∷ ms)) where
