@@ -99,10 +99,10 @@ module _ (p : Setting) where
       (λ e. let y = c .column .holds b (h e) in (
         ghost b o.ahead HELD (update o.known b 0),
         record {
-          core = enter-member t b o.ahead o.known ms w (fix p t o ms b o.ahead 2 (y .0) refl (sym (y .1)) c);
+          core = enter-member t b o.ahead o.known ms w (fix p t o ms b o.ahead HELD (y .0) refl (sym (y .1)) c);
           inquiriesFit = fits-still;
           freeQueueEmpty = λ z. absurd (omega arith);
-          owed = let l = fix-owed p o.owner o.ahead o.stage b o.ahead 2 (y .0) refl (sym (y .1)) lv in record {
+          owed = let l = fix-owed p o.owner o.ahead o.stage b o.ahead HELD (y .0) refl (sym (y .1)) lv in record {
             failOwed = λ k a ne. rw (ne-eqb k b ne) (l .failOwed k (rw (ne-eqb k b ne) at a) ne);
             inquireOwed = λ u v x. rw (eq-eqb b b refl) (λ z. absurd (z refl));
             ascending = ascending-update p t.inquired b 0 ms (omega arith) (lv .ascending);

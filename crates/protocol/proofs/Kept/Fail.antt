@@ -24,7 +24,7 @@ use Rattle.protocol.proofs.Kept.Yielded.{OwedBut, yielded-kept, yielder
 module _ (p : Setting) where
   -- the fail may have been the last thing owed to b
   pub onFail-core : (t : Local) (o : Ghost) (b : ℕ) (ms : List Message) → Core p t o ms → ((k : ℕ) → InquiryFits t k) → (o.stage ≡ FREE → (k : ℕ) → t.queued k ≡ 0)
-      → OwedBut p t.holderSeq t.holder t.queued t.failed o.owner o.known ms b
+      → OwedBut p t o ms b
       → (o.ahead ≡ 0 → o.stage ≢ FREE → o.stage ≤ 2 → o.known o.owner ≢ 0 → headOf p t.queued ≢ 0 → p .comesBefore (t.queued (headOf p t.queued)) (headOf p t.queued) t.holderSeq t.holder ≡ true → t.inquired o.owner ≢ t.grant → 0 < tally (isInquire o.owner t.grant) ms)
       → ((k : ℕ) → Ascending k (t.inquired k) ms) → Invariant p (onFail (view t ms) b)
   unfolding onFail update
@@ -38,7 +38,7 @@ module _ (p : Setting) where
       (λ i. rw (e, h, i) (let hb = eqb-false (t.held b) 0 h in let ib = eqb-false (t.inquired b) 0 i in
       let q = inquiriesFit b ib hb in
       let l = c .column .remembered b ib in
-      let y = yielder p t o b 0 ms c hb (omega arith) in
+      let y = yielder p t o b ms c hb (omega arith) in
       yielded-kept p t o b ms (y .0) (y .1) (y .2) w c (λ k ne. inquiriesFit k) ow ascending))))
       (λ e. rw e (
         o,

@@ -39,12 +39,12 @@ module _ (p : Setting) where
       (λ h. rw (e, h) (note w c ok up ascending (λ i j. absurd (j (eqb-true (t.held b) 0 h)))))
       (λ h. by-bool (eqb n (t.held b))
       (λ i. let hn = eqb-true n (t.held b) i in by-bool (t.failed b)
-      (λ f. rw (e, h, i, f) (let y = yielder p t o b 0 ms c (eqb-false (t.held b) 0 h) (omega arith) in yielded-kept p t o b ms (y .0) (y .1) (y .2) w c (λ k ne. s .inquiriesFit k) (λ k ne. s .owed .failOwed k) ascending))
+      (λ f. rw (e, h, i, f) (let y = yielder p t o b ms c (eqb-false (t.held b) 0 h) (omega arith) in yielded-kept p t o b ms (y .0) (y .1) (y .2) w c (λ k ne. s .inquiriesFit k) (λ k ne. s .owed .failOwed k) ascending))
       (λ f. rw (e, h, i, f) (note w c ok up ascending (λ x y. (hn, f)))))
       (λ i. rw (e, h, i) (drop c ascending (λ ob d0 known ng.
-      let owner = c .column .holds b (eqb-false (t.held b) 0 h) in
-      let nu : t.held o.owner ≡ t.grant + o.ahead = c .column .number (owner .1) in
-      let hb : t.held b ≡ t.grant + o.ahead = rw (owner .0) nu in
+      let own = c .column .holds b (eqb-false (t.held b) 0 h) in
+      let nu : t.held o.owner ≡ t.grant + o.ahead = c .column .number (own .1) in
+      let hb : t.held b ≡ t.grant + o.ahead = rw (own .0) nu in
       eqb-false n (t.held b) i (omega arith))))))
       (λ e. rw e (drop c ascending (λ ob d0 known ng. eqb-false (t.mode b) WAITING e (rw ob at (c .asks .knownWaits o.owner known .0)))))
     where

@@ -12,7 +12,7 @@ use Rattle.protocol.specs.Setting.{Setting, SettingLaw}
 use Rattle.protocol.specs.Local.{WAITING, INSIDE, Local, view, withSites, withEntries}
 use Rattle.protocol.proofs.Basics.{by-bool, clash, update-other}
 use Rattle.protocol.proofs.Lists.{tally-snoc, tally-snoc-no, tally-snoc-yes, All, all-snoc, all-map-not}
-use Rattle.protocol.proofs.Invariant.{Ghost, OUT, HELD, RELEASED, ghost, numberOf, carriesPermission, isRequestOf, isHandOver, situation, InquiryFits, Fits, Column, Core, Invariant}
+use Rattle.protocol.proofs.Invariant.{Ghost, OUT, HELD, RELEASED, ghost, carriesPermission, isRequestOf, isHandOver, situation, InquiryFits, Fits, Column, Core, Invariant}
 use Rattle.protocol.proofs.Sending.{ordered-snoc}
 use Rattle.protocol.proofs.Fitting.{fix, fits-change, no-request, all-stage, all-mode}
 use Rattle.protocol.proofs.Owing.{owed-send, fix-owed, ascending-update}
@@ -138,7 +138,7 @@ module _ (p : Setting) (law : SettingLaw p) where
       let kx : known x ≢ 0 = λ z. qx (c .asks .emptyIfUnknown x xk z) in
       let r = law .siteInRange t.holder (busy .1) in
       let kr = law .siteInRange k (busy .0) in
-      let numberOf : t.held k ≡ t.grant + 0 = c .column .number refl in
+      let nu : t.held k ≡ t.grant + 0 = c .column .number refl in
       let r1 = reply k x (suc (t.held k)) in
       let r2 = handOver k x (t.held k) in
       let ms1 = ms ++ r1 ∷ [] in
@@ -189,9 +189,9 @@ module _ (p : Setting) (law : SettingLaw p) where
       let c = s .core in
       by-bool (p .member k)
       (λ e. let y = c .asks .insideHolds k w e in
-      let c1 = fix p t o ms k o.ahead 2 (y .0) refl (sym (y .1)) c in
+      let c1 = fix p t o ms k o.ahead HELD (y .0) refl (sym (y .1)) c in
       let busy = c1 .arbiter .whenTaken (λ z. omega arith) in
-      let numberOf : t.held k ≡ t.grant + o.ahead = c1 .column .number refl in
+      let nu : t.held k ≡ t.grant + o.ahead = c1 .column .number refl in
       let ne : eqb (t.held k) 0 ≡ false = ne-eqb (t.held k) 0 (λ z. omega arith) in
       by-bool (eqb (t.heir k) 0)
       (λ h. rw (e, ne, h) (
@@ -200,7 +200,7 @@ module _ (p : Setting) (law : SettingLaw p) where
           core = leave-plain t k o.ahead o.known ms w c1;
           inquiriesFit = fits-still;
           freeQueueEmpty = λ z. absurd (omega arith);
-          owed = owed-send p ms (release k (t.held k)) (λ i. refl) (let l = fix-owed p o.owner o.ahead o.stage k o.ahead 2 (y .0) refl (sym (y .1)) (s .owed) in
+          owed = owed-send p ms (release k (t.held k)) (λ i. refl) (let l = fix-owed p o.owner o.ahead o.stage k o.ahead HELD (y .0) refl (sym (y .1)) (s .owed) in
               record { failOwed = l .failOwed; inquireOwed = λ u v x. absurd (omega arith); ascending = ascending-update p t.inquired k 0 ms (omega arith) (s .owed .ascending) });
         },
       ))
@@ -208,11 +208,11 @@ module _ (p : Setting) (law : SettingLaw p) where
       rw (e, ne, h) (
         ghost (t.heir k) 1 OUT o.known,
         record {
-          core = leave-heir t k (t.heir k) o.known ms w (x .3) (fix p t o ms k 0 2 (y .0) (sym (x .2)) (sym (y .1)) c);
+          core = leave-heir t k (t.heir k) o.known ms w (x .3) (fix p t o ms k 0 HELD (y .0) (sym (x .2)) (sym (y .1)) c);
           inquiriesFit = fits-still;
           freeQueueEmpty = λ z. absurd (omega arith);
           owed = owed-send p (ms ++ reply k (t.heir k) (suc (t.held k)) ∷ []) (handOver k (t.heir k) (t.held k)) (λ i. refl) (owed-send p ms (reply k (t.heir k) (suc (t.held k))) (λ i. refl)
-              (let l = fix-owed p o.owner o.ahead o.stage k o.ahead 2 (y .0) refl (sym (y .1)) (s .owed) in
+              (let l = fix-owed p o.owner o.ahead o.stage k o.ahead HELD (y .0) refl (sym (y .1)) (s .owed) in
               record { failOwed = λ i a ne. l .failOwed i a (eqb-false i k (nk t k o.ahead o.known ms w c1 i a)); inquireOwed = λ u. absurd (omega arith); ascending = ascending-update p t.inquired k 0 ms (omega arith) (s .owed .ascending) }));
         },
       )))

@@ -49,4 +49,4 @@ module _ (p : Setting) (law : SettingLaw p) where
   unfolding All Fits
   onRelease-kept t k n ms (o, s) =
       let ok = s .core .underWay .fit .0 in
-      release-fixed t k o.ahead o.known n ms (fix p t o (release k n ∷ ms) k o.ahead 4 (ok .0) refl (sym (ok .2)) (s .core)) (s .inquiriesFit) (fix-owed p o.owner o.ahead o.stage k o.ahead 4 (ok .0) refl (sym (ok .2)) (s .owed))
+      release-fixed t k o.ahead o.known n ms (fix p t o (release k n ∷ ms) k o.ahead RELEASED (ok .0) refl (sym (ok .2)) (s .core)) (s .inquiriesFit) (fix-owed p o.owner o.ahead o.stage k o.ahead RELEASED (ok .0) refl (sym (ok .2)) (s .owed))

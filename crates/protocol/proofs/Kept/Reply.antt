@@ -119,4 +119,4 @@ module _ (p : Setting) where
   unfolding All Fits
   onReply-kept t f b n ms enters (o, s) =
       let ok = s .core .underWay .fit .0 in
-      reply-fixed t b o.ahead o.known f n ms (fix p t o (reply f b n ∷ ms) b o.ahead 1 (ok .0) refl (sym (ok .2)) (s .core)) (s .inquiriesFit) enters (fix-owed p o.owner o.ahead o.stage b o.ahead 1 (ok .0) refl (sym (ok .2)) (s .owed))
+      reply-fixed t b o.ahead o.known f n ms (fix p t o (reply f b n ∷ ms) b o.ahead OUT (ok .0) refl (sym (ok .2)) (s .core)) (s .inquiriesFit) enters (fix-owed p o.owner o.ahead o.stage b o.ahead OUT (ok .0) refl (sym (ok .2)) (s .owed))

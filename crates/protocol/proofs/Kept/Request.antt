@@ -171,7 +171,7 @@ module _ (p : Setting) (law : SettingLaw p) where
       let fr = c .arbiter .whenFree s0 in
       let n1 : 1 ≤ n = let w = c .asks .waitingNumbered k (ok .0) in let y = ok .1 in omega arith in
       let k1 = law .siteInRange k (ok .2) in
-      let v1 = fix p _ _ ms 0 0 0 (sym (fr .0)) (sym (fr .1)) (sym s0) v in
+      let v1 = fix p _ _ ms 0 0 FREE (sym (fr .0)) (sym (fr .1)) (sym s0) v in
       let hk : headOf p (update t.queued k n) ≡ k = head-is p law (update t.queued k n) k (k1 .0) (k1 .1) (rw (eq-eqb k k refl) (λ z. omega arith))
       (λ i lo hi q0 ne. absurd (q0 (rw (ne-eqb i k ne) (freeQueueEmpty s0 i)))) in
       let hm : OwedWhenFree p (update t.queued k n) t.failed t.inquired (update o.known k 1) ms = record {

@@ -11,7 +11,7 @@ use Rattle.protocol.specs.Local.{Local, view}
 use Rattle.protocol.specs.Site.{onTransfer}
 use Rattle.protocol.proofs.Basics.{by-bool}
 use Rattle.protocol.proofs.Lists.{All}
-use Rattle.protocol.proofs.Invariant.{numberOf, Ordered, Ascending, Fits, OwedIn, UnderWayIn, Invariant}
+use Rattle.protocol.proofs.Invariant.{Ordered, Ascending, Fits, OwedIn, UnderWayIn, Invariant}
 
 module _ (p : Setting) (law : SettingLaw p) where
   pub onTransfer-kept : (t : Local) (b x n : ℕ) (ms : List Message) → Invariant p (view t (transfer b x n ∷ ms)) → Invariant p (onTransfer (view t ms) b x n)
@@ -25,10 +25,10 @@ module _ (p : Setting) (law : SettingLaw p) where
       by-bool (eqb n (t.held b))
       (λ e. let hn : n ≡ t.held b = eqb-true n (t.held b) e in
       let n0 : 1 ≤ n = ok .0 in
-      let owner = v .column .holds b (omega arith) in
-      let numberOf : t.held o.owner ≡ t.grant + o.ahead = v .column .number (owner .1) in
-      let bo : b ≡ o.owner = owner .0 in
-      let hb : t.held b ≡ t.grant + o.ahead = rw bo numberOf in
+      let own = v .column .holds b (omega arith) in
+      let nu : t.held o.owner ≡ t.grant + o.ahead = v .column .number (own .1) in
+      let bo : b ≡ o.owner = own .0 in
+      let hb : t.held b ≡ t.grant + o.ahead = rw bo nu in
       let d0 : o.ahead ≡ 0 = omega arith in
       let mem = law .siteInRange t.holder (v .arbiter .whenTaken (λ z. omega arith) .1) in
       let qx = ok .2 (omega arith) (λ z. omega arith) in
@@ -47,7 +47,7 @@ module _ (p : Setting) (law : SettingLaw p) where
               number = v .column .number;
               remembered = v .column .remembered;
               heirs = λ k. by-bool (eqb k b)
-                  (λ c. rw c (λ z. (eqb-true k b c ∙ bo, owner .1, d0, qx .1)))
+                  (λ c. rw c (λ z. (eqb-true k b c ∙ bo, own .1, d0, qx .1)))
                   (λ c. rw c (v .column .heirs k));
             };
           };

@@ -50,4 +50,4 @@ module _ (p : Setting) (law : SettingLaw p) where
   unfolding All Fits
   onYield-kept t k n ms (o, s) =
       let ok = s .core .underWay .fit .0 in
-      yield-fixed t k o.known n ms (fix p t o (yield k n ∷ ms) k 0 3 (ok .0) (sym (s .core .asks .yieldedFailed (ok .2) .2)) (sym (ok .2)) (s .core)) (s .inquiriesFit) (fix-owed p o.owner o.ahead o.stage k 0 3 (ok .0) (sym (s .core .asks .yieldedFailed (ok .2) .2)) (sym (ok .2)) (s .owed))
+      yield-fixed t k o.known n ms (fix p t o (yield k n ∷ ms) k 0 YIELDED (ok .0) (sym (s .core .asks .yieldedFailed (ok .2) .2)) (sym (ok .2)) (s .core)) (s .inquiriesFit) (fix-owed p o.owner o.ahead o.stage k 0 YIELDED (ok .0) (sym (s .core .asks .yieldedFailed (ok .2) .2)) (sym (ok .2)) (s .owed))

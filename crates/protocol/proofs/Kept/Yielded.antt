@@ -4,7 +4,7 @@
 use Prim.Native.Nat.{ℕ, suc, _+_, _≤_}
 use mathlib.Core.Path.{_≡_, refl, sym, ap, _∙_}
 use mathlib.Core.Logic.{_≢_}
-use mathlib.Core.Bool.{Bool, true, false}
+use mathlib.Core.Bool.{true, false}
 use mathlib.Core.List.{List}
 use native.Mathlib.Omega.{arith}
 use lib.Dec.{eqb}
@@ -13,11 +13,11 @@ use Rattle.protocol.specs.Helpers.{update, tally}
 use Rattle.protocol.specs.Message.{Message, yield}
 use Rattle.protocol.specs.Setting.{Setting}
 use Rattle.protocol.specs.Local.{WAITING, INSIDE, Local, view}
-use Rattle.protocol.specs.Arbiter.{headOf}
+use Rattle.protocol.specs.Arbiter.{headOf, beforeHolder}
 use Rattle.protocol.specs.Site.{yielded}
 use Rattle.protocol.proofs.Basics.{by-bool}
 use Rattle.protocol.proofs.Lists.{tally-snoc-no, tally-snoc-yes, all-snoc, snoc-zero}
-use Rattle.protocol.proofs.Invariant.{Ghost, HELD, YIELDED, ghost, numberOf, carriesPermission, isRequestOf, isFailTo, Ascending, InquiryFits, Fits, Core, Invariant}
+use Rattle.protocol.proofs.Invariant.{Ghost, HELD, YIELDED, ghost, carriesPermission, isRequestOf, isFailTo, Ascending, InquiryFits, Fits, Core, Invariant}
 use Rattle.protocol.proofs.Sending.{ordered-snoc}
 use Rattle.protocol.proofs.Fitting.{fix, all-stage}
 use Rattle.protocol.proofs.Owing.{ascending-low, ascending-other}
@@ -63,17 +63,17 @@ module _ (p : Setting) where
       }
 
   -- L1 of all but one site
-  abbrev pub OwedBut : (holderSeq holder : ℕ) (q : ℕ → ℕ) (failed : ℕ → Bool) (owner : ℕ) (known : ℕ → ℕ) (ms : List Message) → ℕ → Type 0
-  OwedBut holderSeq holder q failed owner known ms b = (k : ℕ) → k ≢ b → known k ≢ 0 → k ≢ owner → failed k ≡ false → tally (isFailTo k) ms ≡ 0 → (headOf p q ≡ k) × (p .comesBefore (q k) k holderSeq holder ≡ true)
+  abbrev pub OwedBut : Local → Ghost → List Message → ℕ → Type 0
+  OwedBut t o ms b = (k : ℕ) → k ≢ b → o.known k ≢ 0 → k ≢ o.owner → t.failed k ≡ false → tally (isFailTo k) ms ≡ 0 → (headOf p t.queued ≡ k) × (beforeHolder p t k ≡ true)
 
   -- b yields: S4 and L1 need not hold of b before
   pub yielded-kept : (t : Local) (o : Ghost) (b : ℕ) (ms : List Message) → b ≡ o.owner → 0 ≡ o.ahead → HELD ≡ o.stage → t.mode b ≡ WAITING → Core p t o ms
-      → ((k : ℕ) → k ≢ b → InquiryFits t k) → OwedBut t.holderSeq t.holder t.queued t.failed o.owner o.known ms b → ((k : ℕ) → Ascending k (t.inquired k) ms) → Invariant p (yielded (view t ms) b)
+      → ((k : ℕ) → k ≢ b → InquiryFits t k) → OwedBut t o ms b → ((k : ℕ) → Ascending k (t.inquired k) ms) → Invariant p (yielded (view t ms) b)
   unfolding yielded update
   yielded-kept t o b ms x y z w c m ow ascending = (
     ghost b 0 YIELDED o.known,
     record {
-      core = yielded-core t o.known b ms (fix p t o ms b 0 2 x y z c) w;
+      core = yielded-core t o.known b ms (fix p t o ms b 0 HELD x y z c) w;
       inquiriesFit = λ k. by-bool (eqb k b) (λ e. rw e (λ h. absurd (h refl))) (λ e. rw e (m k (eqb-false k b e)));
       freeQueueEmpty = λ h. absurd (omega arith);
       owed = record {
@@ -85,9 +85,9 @@ module _ (p : Setting) where
   )
 
   -- what a site that waits and remembers an inquire of the number it holds knows
-  pub yielder : (t : Local) (o : Ghost) (b n : ℕ) (ms : List Message) → Core p t o ms → t.held b ≢ 0 → t.held b ≤ t.grant → (b ≡ o.owner) × (0 ≡ o.ahead) × (HELD ≡ o.stage)
-  yielder t o b n ms c h l =
-      let owner = c .column .holds b h in
-      let numberOf : t.held o.owner ≡ t.grant + o.ahead = c .column .number (owner .1) in
-      let hb : t.held b ≡ t.grant + o.ahead = rw (owner .0) numberOf in
-      (owner .0, omega arith, sym (owner .1))
+  pub yielder : (t : Local) (o : Ghost) (b : ℕ) (ms : List Message) → Core p t o ms → t.held b ≢ 0 → t.held b ≤ t.grant → (b ≡ o.owner) × (0 ≡ o.ahead) × (HELD ≡ o.stage)
+  yielder t o b ms c h l =
+      let own = c .column .holds b h in
+      let nu : t.held o.owner ≡ t.grant + o.ahead = c .column .number (own .1) in
+      let hb : t.held b ≡ t.grant + o.ahead = rw (own .0) nu in
+      (own .0, omega arith, sym (own .1))
