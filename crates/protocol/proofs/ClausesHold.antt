@@ -60,6 +60,7 @@ module _ (p : Setting) (law : SettingLaw p) where
         let f = fits-permission p s m a (rw c) in
         (eqb-true k (siteOf m) (v .0) ∙ f .0, eqb-true n (numberOf m) (v .1) ∙ f .1, rw c at (f .2))
 
+    -- the same of a release
     release-own : (k n : ℕ) (m : Message) → Fits p s m → isRelease k n m ≡ true → (k ≡ s.owner) × (s.stage ≡ RELEASED)
     release-own k n m a e =
         let w = and-split (eqb (kind m) RELEASE) (eqb k (siteOf m) && eqb n (numberOf m)) e in
@@ -93,16 +94,19 @@ module _ (p : Setting) (law : SettingLaw p) where
     ahead-one : o.ahead ≢ 0 → o.ahead ≡ 1
     ahead-one z = let y = c .arbiter .aheadByOne in omega arith
 
+    -- a hand-over that the arbiter has not heard of is under way
     overdue : o.ahead ≢ 0 → HandOverTo p v o.owner
     unfolding v
     overdue z = (λ y. let w = c .arbiter .handedOver z .1 in omega arith, c .underWay .handOvers z)
 
+    -- no holder while the permission is free, and only then
     holder-zero : t.holder ≡ 0 → o.stage ≡ FREE
     holder-zero h = by-bool (eqb o.stage FREE) (λ e. eqb-true o.stage FREE e) (λ e. let y = law .siteInRange t.holder (c .arbiter .whenTaken (eqb-false o.stage FREE e) .1) in absurd (omega arith))
 
     zero-holder : o.stage ≡ FREE → t.holder ≡ 0
     zero-holder z = let f = c .arbiter .whenFree z in sym (c .arbiter .ownerIsHolder (f .1)) ∙ f .0
 
+    -- at stage OUT the reply is under way, at stage RELEASED the release
     flying : o.stage ≡ OUT → 0 < tally (isReply o.owner (t.grant + o.ahead)) ms
     flying z =
         let tk : tally carriesPermission ms ≡ 1 = rw z at (c .underWay .permissions) in
@@ -125,6 +129,7 @@ module _ (p : Setting) (law : SettingLaw p) where
         (λ e3. let a0 = eqb-false o.stage FREE e0 in let a1 = eqb-false o.stage OUT e1 in let a2 = eqb-false o.stage HELD e2 in let a3 = eqb-false o.stage YIELDED e3 in
         inr (inr (rw gd at (released-back (omega arith))))))))
 
+    -- R1, T1, T3 to T6, T8: each message
     fits : (m : Message) → Fits p (situation t o.owner o.ahead o.stage) m → FitsTables p v m
     unfolding Fits FitsTables v
     fits (request k n) a = (a .0, a .1, let w = c .asks .waitingNumbered k (a .0) in let y = a .1 in omega arith, a .2)
@@ -175,6 +180,7 @@ module _ (p : Setting) (law : SettingLaw p) where
         rw (a .0) (c .arbiter .ownerIsHolder (y .2), omega arith, w .0, c .asks .ownerEntry (y .0) .0 (y .2), y .1, omega arith, w .1)
     fits (transfer k x n) a = a
 
+    -- A3: each stage is one place
     one-place : cond (eqb t.holder 0) 1 0 + tally isOut ms + count (λ k. not (eqb (t.held k) 0)) (p .size) + tally isBack ms ≡ 1
     one-place =
         let tk = c .underWay .permissions in
@@ -196,9 +202,11 @@ module _ (p : Setting) (law : SettingLaw p) where
         (λ e. let h = count-none (λ k. not (eqb (t.held k) 0)) (p .size) (λ k. not-held k (λ x. eqb-false o.stage HELD e)) in
         let u = rw (e0, e) at tk in omega arith)))
 
+    -- who does not wait is not known
     unknown : (k : ℕ) → t.mode k ≢ WAITING → o.known k ≡ 0
     unknown k h = by-bool (eqb (o.known k) 0) (λ e. eqb-true (o.known k) 0 e) (λ e. absurd (h (c .asks .knownWaits k (eqb-false (o.known k) 0 e) .0)))
 
+    -- S1
     at-rest : (k : ℕ) → t.mode k ≡ REST → (t.held k ≡ 0) × (t.heir k ≡ 0) × (t.inquired k ≡ 0)
     at-rest k m =
         let kz = unknown k (λ z. omega arith) in
@@ -208,12 +216,14 @@ module _ (p : Setting) (law : SettingLaw p) where
           by-bool (eqb (t.inquired k) 0) (λ e. eqb-true (t.inquired k) 0 e) (λ e. let y = c .column .remembered k (eqb-false (t.inquired k) 0 e) .0 in absurd (omega arith)),
         )
 
+    -- S2
     inside-holds : (k : ℕ) → t.mode k ≡ INSIDE → p .member k ≡ true → t.held k ≢ 0
     inside-holds k m e z =
         let y = c .asks .insideHolds k m e in
         let busy = c .arbiter .whenTaken (λ z. let w = y .1 in omega arith) .3 in
         let nu : t.held k ≡ t.grant + o.ahead = rw (y .0) (c .column .number (y .1)) in omega arith
 
+    -- T2
     holding : (k : ℕ) → t.held k ≢ 0 → (((k ≡ t.holder) × (t.held k ≡ t.grant) × (t.mode k ≡ WAITING → t.holderSeq ≡ t.seq k))
         ⊎ ((t.held k ≡ suc t.grant) × (t.queued k ≢ 0) × (t.mode k ≡ WAITING → t.queued k ≡ t.seq k) × HandOverTo p v k)) × (p .member k ≡ true)
     holding k h =
@@ -228,6 +238,7 @@ module _ (p : Setting) (law : SettingLaw p) where
           busy .0,
         )
 
+    -- T7
     inherits : (k : ℕ) → t.heir k ≢ 0 → (k ≡ t.holder) × (t.held k ≡ t.grant) × (t.queued (t.heir k) ≢ 0)
     inherits k h =
         let y = c .column .heirs k h in
@@ -235,6 +246,7 @@ module _ (p : Setting) (law : SettingLaw p) where
         let d0 = y .2 in
         (y .0 ∙ c .arbiter .ownerIsHolder (y .2), omega arith, y .3)
 
+    -- R1
     one-request : (k : ℕ) → tally (isRequestOf k) ms ≤ 1
     one-request k = by-bool (eqb (t.mode k) WAITING)
         (λ e. by-bool (p .member k)
@@ -242,12 +254,15 @@ module _ (p : Setting) (law : SettingLaw p) where
         (λ m. let w = no-request p (situation t o.owner o.ahead o.stage) k ms (inr m) (c .underWay .fit) in omega arith))
         (λ e. let w = no-request p (situation t o.owner o.ahead o.stage) k ms (inl (eqb-false (t.mode k) WAITING e)) (c .underWay .fit) in omega arith)
 
+    -- a waiting member without request under way is known
     asked-is : (k : ℕ) → t.mode k ≡ WAITING → p .member k ≡ true → tally (isRequestOf k) ms ≡ 0 → o.known k ≢ 0
     asked-is k m e z y = let w = c .underWay .requests k m e in omega arith
 
+    -- a known site other than the owner is not the holder
     holder-not : (k : ℕ) → o.known k ≢ 0 → k ≢ o.owner → t.holder ≢ k
     holder-not k kk ne z = let y = c .asks .queuedIfKnown k ne kk in let w = c .asks .waitingNumbered k (c .asks .knownWaits k kk .0) in let u : t.queued k ≡ 0 = rw z at (c .arbiter .holderNotQueued) in omega arith
 
+    -- R3
     asked-at : (k : ℕ) → t.mode k ≡ WAITING → p .member k ≡ true → tally (isRequestOf k) ms ≡ 0
         → ((t.holder ≡ k) × (t.holderSeq ≡ t.seq k) × (t.queued k ≡ 0) × (tally (isAnyRelease k t.grant) ms ≡ 0)) ⊎ ((t.holder ≢ k) × (t.queued k ≡ t.seq k) × (tally (isRelease k (suc t.grant)) ms ≡ 0))
     asked-at k m e z =
@@ -277,6 +292,7 @@ module _ (p : Setting) (law : SettingLaw p) where
           all-none _ (isRelease k (suc t.grant)) ms (c .underWay .fit) (no-release (situation t o.owner o.ahead o.stage) k (suc t.grant) (λ y. absurd (ne y))),
         ))
 
+    -- R4
     unasked : (k : ℕ) → p .member k ≡ true → o.known k ≡ 0 → t.mode k ≢ INSIDE → (t.queued k ≢ 0 → 0 < tally (isRelease k (suc t.grant)) ms) × (t.holder ≡ k → 0 < tally (isAnyRelease k t.grant) ms)
     unasked k e kz m =
         by-bool (eqb k o.owner)
@@ -305,6 +321,7 @@ module _ (p : Setting) (law : SettingLaw p) where
               rw (← y) (omega arith)),
         ))
 
+    -- L1
     owing : (k : ℕ) → t.mode k ≡ WAITING → p .member k ≡ true → tally (isRequestOf k) ms ≡ 0 → t.holder ≢ k → tally (isReplyTo k) ms ≡ 0 → t.held k ≡ 0
         → t.failed k ≡ false → tally (isFailTo k) ms ≡ 0 → (headOf p t.queued ≡ k) × (p .comesBefore (t.queued k) k t.holderSeq t.holder ≡ true)
     owing k m e z nh nr h0 f nf =
@@ -324,6 +341,7 @@ module _ (p : Setting) (law : SettingLaw p) where
         kw (c .asks .releasedLeft s4 .0)) in
         s .owed .failOwed k kk not-owner f nf
 
+    -- L2
     inquiring : t.holder ≢ 0 → t.mode t.holder ≡ WAITING → (0 < tally (isReply t.holder t.grant) ms) ⊎ (t.held t.holder ≡ t.grant)
         → headOf p t.queued ≢ 0 → p .comesBefore (t.queued (headOf p t.queued)) (headOf p t.queued) t.holderSeq t.holder ≡ true → t.inquired t.holder ≢ t.grant → 0 < tally (isInquire t.holder t.grant) ms
     inquiring h m d =

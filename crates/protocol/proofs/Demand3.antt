@@ -19,12 +19,15 @@ use Rattle.protocol.proofs.RigInvariant.{RigInvariant, clauses-at}
 use Rattle.protocol.proofs.RigKept.{reached}
 
 module _ (y : System) (lw : Lawful y) where
+  -- a site that is not inside is at rest or waits
   two-modes : (m : ℕ) → m ≤ 2 → m ≢ 2 → (m ≡ 0) ⊎ (m ≡ 1)
   two-modes m l ne = by-bool (eqb m 0) (λ e. inl (eqb-true m 0 e)) (λ e. let z = eqb-false m 0 e in inr (omega arith))
 
+  -- the clauses while nothing is under way
   quiet : (r : Rig) → RigInvariant y r → r.underWay ≡ [] → (j : ℕ) → Clauses (settingOf y j) (view (localAt r j) [])
   quiet r w e j = subst (λ (ms : List Message). Clauses (settingOf y j) (view (localAt r j) ms)) (ap (messagesOf j) e ∙ messages-nil j) (clauses-at y lw r w j)
 
+  -- exclusion: two sites inside hold a common member of their sets, whose permission has one owner
   pub sound : (r : Rig) → RigInvariant y r → Sound y r
   sound r w = record {
     exclusion = λ k l a b.
@@ -38,9 +41,11 @@ module _ (y : System) (lw : Lawful y) where
         (λ k m. w .inRange k (λ z. omega arith) .1) (w .lacksOne);
   }
 
+  -- every run
   pub run-sound : (es : List Event) → Sound y (run y es fresh)
   run-sound es = sound (run y es fresh) (reached y lw es)
 
+-- demand 3
 pub claim-proved : Claim
 unfolding Claim
 claim-proved y lw es = run-sound y lw es

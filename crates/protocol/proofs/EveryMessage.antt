@@ -1,3 +1,4 @@
+-- The delivery of any message keeps the invariant of its arbiter, and the fresh state has it. Each kind has its own file in Kept/.
 use Prim.Native.Nat.{ℕ}
 use mathlib.Core.Path.{_≡_, refl}
 use mathlib.Core.Bool.{Bool, false}
@@ -46,6 +47,7 @@ module _ (p : Setting) (law : SettingLaw p) where
         },
       )
 
+  -- each kind by its rule
   pub handled-kept : (t : Local) (ms : List Message) (enters : Bool) (m : Message) → Invariant p (view t (m ∷ ms)) → Invariant p (handled p (view t ms) enters m)
   unfolding handled
   handled-kept t ms enters (request k n) v = onRequest-kept p law t k n ms v
@@ -57,6 +59,7 @@ module _ (p : Setting) (law : SettingLaw p) where
   handled-kept t ms enters (yield k n) v = onYield-kept p law t k n ms v
   handled-kept t ms enters (transfer k x n) v = onTransfer-kept p law t k x n ms v
 
+  -- nothing is held, queued or under way
   pub fresh-invariant : Invariant p freshView
   unfolding freshView tally All Ordered Ascending
   fresh-invariant = (

@@ -1,3 +1,5 @@
+-- The head of the queue is what document 01 says: the queued site that comes before all others queued. It stays the head when another
+-- site leaves the queue, and when a new one is queued that does not come first.
 use Prim.Native.Nat.{ℕ, zero, suc, _≤_}
 use mathlib.Core.Path.{_≡_, refl, sym, _∙_}
 use mathlib.Core.Logic.{_≢_}
@@ -17,9 +19,11 @@ module _ (p : Setting) where
     pub comesFirst : h ≢ 0 → (i : ℕ) → 1 ≤ i → i ≤ n → q i ≢ 0 → i ≢ h → p .comesBefore (q h) h (q i) i ≡ true
 
 module _ (p : Setting) (law : SettingLaw p) where
+  -- the order is asymmetric
   pub asym : (a x b y : ℕ) → p .comesBefore a x b y ≡ true → p .comesBefore b y a x ≡ false
   asym a x b y e = by-bool (p .comesBefore b y a x) (λ f. clash (p .comesBefore a x a x) (law .transitive a x b y a x e f) (law .irreflexive a x)) (λ f. f)
 
+  -- the definition gives the head
   pub head-of : (q : ℕ → ℕ) (n : ℕ) → IsHead p q n (head p q n)
   unfolding head
   head-of q zero = record { empty = λ z i a b. absurd (omega arith); found = λ z. absurd (z refl); comesFirst = λ z. absurd (z refl) }
@@ -56,6 +60,7 @@ module _ (p : Setting) (law : SettingLaw p) where
             (λ x. r .comesFirst w i a (low i b (eqb-false i (suc n) x)) c d);
       }))))
 
+  -- and there is only one
   pub head-is : (q : ℕ → ℕ) (h : ℕ) → 1 ≤ h → h ≤ p .size → q h ≢ 0 → ((i : ℕ) → 1 ≤ i → i ≤ p .size → q i ≢ 0 → i ≢ h → p .comesBefore (q h) h (q i) i ≡ true) → headOf p q ≡ h
   head-is q h l u n f =
       let r = head-of q (p .size) in

@@ -1,3 +1,6 @@
+-- No rig is stuck. Let nothing be under way and nobody be inside. A waiting site that lacks a member and is not failed, or comes before
+-- all waiting sites, is the head of that member's queue and comes before its holder, which by L2 remembers an inquire and by S4 is
+-- not failed; the holder waits and comes later. So there would be no last waiting site that is not failed.
 use Prim.Native.Nat.{ℕ, suc, _≤_}
 use mathlib.Core.Path.{_≡_, refl, sym, _∙_}
 use mathlib.Core.Logic.{_⊎_, inl, inr, _≢_, ⊎-elim}
@@ -78,6 +81,7 @@ module _ (y : System) (lw : Lawful y) (s : Sites) (rows : ℕ → Row)
     (out : (k : ℕ) → (s.mode k ≡ REST) ⊎ (s.mode k ≡ WAITING))
     (inRange : (k : ℕ) → s.mode k ≡ WAITING → k ≤ y.size)
     (lacksOne : (k : ℕ) → s.mode k ≡ WAITING → (j : ℕ) × (y.sets k j ≡ true) × ((rows j) .held k ≡ 0)) where
+  -- who asked before whom, both ways round
   sooner : ℕ → ℕ → Bool
   sooner a b = y.comesBefore (s.seq a) a (s.seq b) b
 
@@ -100,6 +104,7 @@ module _ (y : System) (lw : Lawful y) (s : Sites) (rows : ℕ → Row)
   unfolding later
   late-trans a b c p q = lw .transitive (s.seq c) c (s.seq b) b (s.seq a) a q p
 
+  -- who waits, and who waits and is not failed
   waits : ℕ → Bool
   waits k = eqb (s.mode k) WAITING
 
@@ -110,10 +115,12 @@ module _ (y : System) (lw : Lawful y) (s : Sites) (rows : ℕ → Row)
   not-false true e = sym e
   not-false false e = refl
 
+  -- from a waiting site to a later one, which is not failed
   next : (k : ℕ) → s.mode k ≡ WAITING → (s.failed k ≡ false) ⊎ ((i : ℕ) → s.mode i ≡ WAITING → i ≢ k → y.comesBefore (s.seq k) k (s.seq i) i ≡ true)
       → (h : ℕ) × (s.mode h ≡ WAITING) × (s.failed h ≡ false) × (y.comesBefore (s.seq k) k (s.seq h) h ≡ true)
   next k m d = let (j, e, h) = lacksOne k m in chase (settingOf y j) (law-of y lw j) (localOf s (rows j)) (inv j) out k m e h d
 
+  -- so none that is not failed is the last
   no-last : Least later late-irrefl late-trans free (suc y.size) → ⊥
   unfolding later free
   no-last l =

@@ -19,6 +19,7 @@ use Rattle.protocol.proofs.Basics.{by-bool}
 use Rattle.protocol.proofs.Lists.{All, all-snoc, all-map, all-without}
 use Rattle.protocol.proofs.Invariant.{numberOf}
 
+-- of a message
 abbrev pub NumberBelow : ℕ → Message → Type 0
 NumberBelow b m = numberOf m ≤ b
 
@@ -37,10 +38,12 @@ pub record ViewBelow (b : ℕ) (v : View) : Type 0 where
   pub tables : LocalBelow b v.tables
   pub messages : All (NumberBelow b) v.messages
 
+-- an update with a small number
 update-bounded : (f : ℕ → ℕ) (i x b : ℕ) → x ≤ b → ((k : ℕ) → f k ≤ b) → (k : ℕ) → update f i x k ≤ b
 unfolding update
 update-bounded f i x b l h k = by-bool (eqb k i) (λ e. rw e l) (λ e. rw e (h k))
 
+-- a larger bound
 row-up : (b c : ℕ) (r : Row) → b ≤ c → RowBelow b r → RowBelow c r
 row-up b c r l s = record { grant = let z = s .grant in omega arith; holderSeq = let z = s .holderSeq in omega arith; queued = λ k. let z = s .queued k in omega arith; held = λ k. let z = s .held k in omega arith; inquired = λ k. let z = s .inquired k in omega arith }
 
@@ -51,10 +54,12 @@ view-up b c v l s = record { tables = row-up b c (rowOf v.tables) l (s .tables);
 send-bounded : (b : ℕ) (v : View) (m : Message) → numberOf m ≤ b → ViewBelow b v → ViewBelow b (send v m)
 send-bounded b v m l s = record { tables = s .tables; messages = all-snoc _ v.messages m (s .messages) l }
 
+-- nothing is sent
 nothing : (b : ℕ) (t : Local) → LocalBelow b t → ViewBelow b (view t [])
 unfolding All
 nothing b t s = record { tables = s; messages = tt }
 
+-- each rule in turn: at most two more
 yielded-bounded : (b : ℕ) (t : Local) (k : ℕ) → LocalBelow b t → ViewBelow b (yielded (view t []) k)
 unfolding yielded
 yielded-bounded b t k s = send-bounded b _ (yield k (t.held k)) (s .held k) (nothing b _ (record { grant = s .grant; holderSeq = s .holderSeq; queued = s .queued; held = update-bounded t.held k 0 b (omega arith) (s .held); inquired = update-bounded t.inquired k 0 b (omega arith) (s .inquired) }))
@@ -190,6 +195,7 @@ module _ (p : Setting) where
   handled-bounded b t ent (yield k n) l s = view-up (suc b) _ _ (omega arith) (onYield-bounded b t k n s)
   handled-bounded b t ent (transfer k x n) l s = view-up b _ _ (omega arith) (onTransfer-bounded b t k x n s)
 
+-- of the messages of all arbiters, and of the rig
 abbrev pub SentBelow : ℕ → Sent → Type 0
 SentBelow b x = numberOf x.message ≤ b
 
@@ -199,6 +205,7 @@ pub record RigBelow (b : ℕ) (r : Rig) : Type 0 where
   pub rows : (j : ℕ) → RowBelow b (r.rows j)
   pub underWay : All (SentBelow b) r.underWay
 
+-- of what is sent by many
 all-append : {A : Type 0} (P : A → Type 0) (xs ys : List A) → All P xs → All P ys → All P (xs ++ ys)
 unfolding All
 all-append P [] ys a c = c
@@ -218,6 +225,7 @@ pub rig-up : (b c : ℕ) (r : Rig) → b ≤ c → RigBelow b r → RigBelow c r
 rig-up b c r l s = record { clock = λ k. let z = s .clock k in omega arith; seq = λ k. let z = s .seq k in omega arith; rows = λ j. row-up b c (r.rows j) l (s .rows j); underWay = all-map _ _ r.underWay (λ x h. omega arith) (s .underWay) }
 
 module _ (y : System) where
+  -- each event in turn: at most two more
   withoutEntries-bounded : (b : ℕ) (r : Row) (s : ℕ) → RowBelow b r → RowBelow b (withoutEntries r s)
   withoutEntries-bounded b r s h = record { grant = h .grant; holderSeq = h .holderSeq; queued = h .queued; held = update-bounded r.held s 0 b (omega arith) (h .held); inquired = update-bounded r.inquired s 0 b (omega arith) (h .inquired) }
 
@@ -306,6 +314,7 @@ module _ (y : System) where
       (λ e. rw e (rig-up (suc b) _ _ (omega arith) (left-bounded b r s h))) (λ e. rw e (rig-up b _ r (omega arith) h))
   step-bounded b r (deliver a c) h = takenOff-bounded b r a c (first (channel a c) r.underWay) refl h
 
+  -- so a run adds at most two for each event
   pub run-bounded : (es : List Event) (b : ℕ) (r : Rig) → RigBelow b r → RigBelow (b + 2 * length es) (run y es r)
   unfolding run
   run-bounded [] b r h = rig-up b _ r (omega arith) h

@@ -1,3 +1,5 @@
+-- A message other than a reply or a fail changes its arbiter's row alone: the sites' modes, numbers and marks stay, what is sent comes
+-- at the end, and nobody gets a permission that had none. A fail and a reply change the sites too, in the way the rig says.
 use Prim.Native.Nat.{ℕ, suc}
 use mathlib.Core.Path.{_≡_, refl}
 use mathlib.Core.Logic.{_≢_}
@@ -19,6 +21,7 @@ abbrev pub OneRow : (View → View) → Local → List Message → Type 0
 OneRow F t ms = (F (view t ms) ≡ view (localOf (sitesOf t) (rowOf ((F (view t [])) .tables))) (ms ++ (F (view t [])) .messages)) × ((k : ℕ) → t.held k ≡ 0 → (F (view t [])) .tables .held k ≡ 0)
 
 module _ (p : Setting) where
+  -- each rule in turn
   granted-row : (t : Local) (k n : ℕ) (ms : List Message) → OneRow (λ v. granted p v k n) t ms
   unfolding granted
   granted-row t k n ms = by-bool (eqb (headOf p (update t.queued k 0)) 0)
@@ -81,6 +84,7 @@ module _ (p : Setting) where
       (λ e. rw e (rw append-nil, λ i h. h))
       (λ e. rw e (rw append-nil, λ i h. h))
 
+  -- to clear an entry gives nobody the permission
   less : (t : Local) (b k : ℕ) → t.held k ≡ 0 → update t.held b 0 k ≡ 0
   unfolding update
   less t b k h = by-bool (eqb k b) (λ e. rw e) (λ e. rw e h)
@@ -97,6 +101,7 @@ module _ (p : Setting) where
       (λ g. rw (e, f, g) (rw append-nil, λ i h. h))))
       (λ e. rw e (rw append-nil, λ i h. h))
 
+  -- a fail
   pub onFail-row : (t : Local) (b : ℕ) (ms : List Message)
       → (onFail (view t ms) b ≡ view (localOf (record { mode = t.mode; seq = t.seq; failed = cond (eqb (t.mode b) WAITING) (update t.failed b true) t.failed }) (rowOf ((onFail (view t []) b) .tables))) (ms ++ (onFail (view t []) b) .messages))
       × ((k : ℕ) → t.held k ≡ 0 → (onFail (view t []) b) .tables .held k ≡ 0)
@@ -107,6 +112,7 @@ module _ (p : Setting) where
       (λ f. rw (e, f) (rw append-nil, λ i h. h)))
       (λ e. rw e (rw append-nil, λ i h. h))
 
+  -- a reply
   pub onReply-row : (t : Local) (b n : ℕ) (ent : Bool) (ms : List Message)
       → onReply p (view t ms) b n ent ≡ view (localOf (cond ((eqb (t.mode b) WAITING && (p .member b && eqb (t.held b) 0)) && ent)
       (record { mode = update t.mode b 2; seq = update t.seq b 0; failed = update t.failed b false }) (sitesOf t)) (rowOf ((onReply p (view t []) b n ent) .tables))) (ms ++ (onReply p (view t []) b n ent) .messages)
@@ -141,6 +147,7 @@ module _ (p : Setting) where
   Simple (yield k n) = Unit {0}
   Simple (transfer k x n) = Unit {0}
 
+  -- so every message but a reply and a fail changes one row
   pub handled-row : (t : Local) (m : Message) (ms : List Message) → Simple m → OneRow (λ v. handled p v false m) t ms
   unfolding handled Simple
   handled-row t (request k n) ms u = onRequest-row t k n ms

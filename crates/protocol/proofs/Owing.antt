@@ -1,3 +1,5 @@
+-- What taking a message off and sending one do to what is owed: L1 is about fails, L2 and L3 about inquires. All inquires to one site
+-- go the same way, so they arrive in order of sending, and their numbers ascend because the grant number only grows.
 use Prim.Native.Nat.{ℕ, _≤_}
 use mathlib.Core.Path.{_≡_, refl, sym, _∙_}
 use mathlib.Core.Bool.{Bool, true, false, cond}
@@ -15,6 +17,7 @@ use Rattle.protocol.proofs.Invariant.{siteOf, numberOf, isFailTo, isInq
 use Rattle.protocol.proofs.Sending.{route-from}
 use Rattle.protocol.proofs.Fitting.{fits-inquire}
 
+-- a smaller bound
 pub ascending-low : (k lo lo′ : ℕ) (ms : List Message) → lo′ ≤ lo → Ascending k lo ms → Ascending k lo′ ms
 unfolding Ascending
 ascending-low k lo lo′ [] l a = tt
@@ -32,6 +35,7 @@ ascending-snoc k lo (x ∷ ms) m l f a = (
       (λ e. by-bool (isInquireTo k x) (λ u. rw u (f e .0 u)) (λ u. rw u (l e))) (λ e. f e .1) (a .1),
 )
 
+-- one more at the end that is no inquire
 pub ascending-other : (k lo : ℕ) (ms : List Message) (m : Message) → isInquireTo k m ≡ false → Ascending k lo ms → Ascending k lo (ms ++ m ∷ [])
 ascending-other k lo ms m e a = ascending-snoc k lo ms m (λ z. clash (isInquireTo k m) z e) (λ z. clash (isInquireTo k m) z e) a
 
@@ -49,6 +53,7 @@ inquire-channel j a b k m e u =
     let c = and-split (eqb a ((route j m) .from)) (eqb b ((route j m) .to)) u in
     (eqb-true a _ (c .0) ∙ v .0, eqb-true b _ (c .1) ∙ v .1 ∙ sym (eqb-true k (siteOf m) (w .1)))
 
+-- the message that is taken off may stand first
 pub ascending-pull : (j a b k lo : ℕ) (ms : List Message) (m : Message) → first (between j a b) ms ≡ some m → Ascending k lo ms → Ascending k lo (m ∷ withoutFirst (between j a b) ms)
 unfolding Ascending first withoutFirst
 ascending-pull j a b k lo [] m e o = let z : _≡_ {A = ℕ} 0 1 = cc in absurd (omega arith)
@@ -64,11 +69,13 @@ ascending-pull j a b k lo (y ∷ ms) m e o =
     (λ u. (λ z. clash (isInquireTo k m) z u, (rw u (o .0), rw u (rw u at (ih .1)))))))
 
 module _ (p : Setting) where
+  -- an inquire of the grant number may be sent
   pub ascending-inquire : {s : Situation} {known : ℕ → ℕ} (inquired : ℕ → ℕ) (h : ℕ) (ms : List Message) → UnderWay p s known ms
       → ((k : ℕ) → inquired k ≤ s.grant) → ((k : ℕ) → Ascending k (inquired k) ms) → (k : ℕ) → Ascending k (inquired k) (ms ++ inquire h s.grant ∷ [])
   ascending-inquire {s} inquired h ms m l a k =
       ascending-snoc k (inquired k) ms (inquire h s.grant) (λ e. l k) (λ e. all-map _ _ ms (λ x o. fits-inquire p s k x o) (m .fit)) (a k)
 
+  -- no remembered number is past the grant number
   pub inquired-low : {g : ℕ} {q mode held heir inquired : ℕ → ℕ} {owner d stage : ℕ} → Column p g q mode held heir inquired owner d stage → (k : ℕ) → inquired k ≤ g
   inquired-low {g} {inquired = inquired} c k = by-bool (eqb (inquired k) 0) (λ e. let y = eqb-true (inquired k) 0 e in omega arith) (λ e. c .remembered k (eqb-false (inquired k) 0 e) .2)
 
@@ -81,6 +88,7 @@ module _ (p : Setting) where
     ascending = λ k. ascending-other k (inquired k) ms m (n k) (l .ascending k);
   }
 
+  -- the ghosts put to the names at hand
   pub fix-owed : {g holder holderSeq : ℕ} {q : ℕ → ℕ} {failed : ℕ → Bool} {inquired : ℕ → ℕ} {known : ℕ → ℕ} {ms : List Message} (owner d stage b e s : ℕ) → b ≡ owner → e ≡ d → s ≡ stage
       → Owed p g holder holderSeq q failed inquired owner d stage known ms → Owed p g holder holderSeq q failed inquired b e s known ms
   fix-owed owner d stage b e s x y z l = rw (x, y, z) l

@@ -50,5 +50,6 @@ module _ (y : System) (lw : Lawful y) where
       (λ e. let m = clauses-at r w i .T2 b (eqb-false ((r.rows i) .held b) 0 e) .1 in
       let z = lw .memberInRange b i m in absurd (h (z .0) (z .1)))
 
+  -- no set has a member outside 1 to N
   pub stranger : (s j : ℕ) → ((1 ≤ j) → j ≤ y.size → ⊥) → y.sets s j ≡ false
   stranger s j h = by-bool (y.sets s j) (λ e. let w = lw .memberInRange s j e in absurd (h (w .0) (w .1))) (λ e. e)

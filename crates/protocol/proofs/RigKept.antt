@@ -29,6 +29,7 @@ use Rattle.protocol.proofs.RigMessages.{messages-append, messages-sentB
 use Rattle.protocol.proofs.RigInvariant.{RigInvariant, first-fits, held-range, stranger}
 
 module _ (y : System) (lw : Lawful y) where
+  -- an ask: every arbiter sees it
   asked-kept : (r : Rig) (s : ℕ) → 1 ≤ s → s ≤ y.size → r.sites.mode s ≡ REST → RigInvariant y r → RigInvariant y (asked y r s)
   unfolding asked askSeen update
   asked-kept r s a b m w = record {
@@ -45,6 +46,7 @@ module _ (y : System) (lw : Lawful y) where
         (λ e. rw e (λ h. w .lacksOne k h));
   }
 
+  -- a leave: every arbiter sees it
   left-kept : (r : Rig) (s : ℕ) → r.sites.mode s ≡ INSIDE → RigInvariant y r → RigInvariant y (left y r s)
   unfolding left leaveSeen update
   left-kept r s m w = record {
@@ -71,6 +73,7 @@ module _ (y : System) (lw : Lawful y) where
       (handled-kept (settingOf y x.arbiter) (law-of y lw x.arbiter) (localAt r x.arbiter) (withoutFirst (between x.arbiter a b) (messagesOf x.arbiter r.underWay)) e x.message
       (pull-invariant (settingOf y x.arbiter) (law-of y lw x.arbiter) (localAt r x.arbiter) (messagesOf x.arbiter r.underWay) a b x.message (first-messages a b r.underWay x f) (w .arbiters x.arbiter)))
 
+  -- a message that changes one row
   withEffect-kept : (r : Rig) (a b : ℕ) (x : Sent) (clock : ℕ → ℕ) → ((k : ℕ) → clock k ≢ 0 → (1 ≤ k) × (k ≤ y.size)) → Simple (settingOf y x.arbiter) x.message → first (channel a b) r.underWay ≡ some x → RigInvariant y r → RigInvariant y (withEffect y r (withoutFirst (channel a b) r.underWay) clock x.arbiter x.message)
   unfolding update
   withEffect-kept r a b x clock cl u f w =
@@ -95,15 +98,18 @@ module _ (y : System) (lw : Lawful y) where
         );
       }
 
+  -- where nothing is held, a fail sends nothing
   onFail-silent : (t : Local) (b : ℕ) → t.held b ≡ 0 → (onFail (view t []) b) .messages ≡ []
   unfolding onFail
   onFail-silent t b h = by-bool (eqb (t.mode b) WAITING) (λ e. rw (e, eq-eqb (t.held b) 0 h)) (λ e. rw e)
 
+  -- a fail, at its own arbiter
   home-fail : (r : Rig) (a b j k : ℕ) → first (channel a b) r.underWay ≡ some (sent j (fail k)) → RigInvariant y r
       → Invariant (settingOf y j) (onFail (view (localAt r j) (messagesOf j (withoutFirst (channel a b) r.underWay))) k)
   unfolding handled
   home-fail r a b j k f w = at-home r a b (sent j (fail k)) false f w
 
+  -- a fail: every arbiter sees it
   fail-kept : (r : Rig) (a b j k : ℕ) → first (channel a b) r.underWay ≡ some (sent j (fail k)) → RigInvariant y r → RigInvariant y (delivered y r (withoutFirst (channel a b) r.underWay) j (fail k))
   unfolding delivered
   fail-kept r a b j k f w =
@@ -127,6 +133,7 @@ module _ (y : System) (lw : Lawful y) where
           (λ e. rw (eqb-true i j e) (home-fail r a b j k f w))
           (λ e. rw (without-other a b i r.underWay (sent j (fail k)) f (eqb-false i j e)) (failSeen-kept (settingOf y i) (localAt r i) k (messagesOf i r.underWay) (w .arbiters i)))
 
+  -- a reply, at its own arbiter
   home-reply : (r : Rig) (a b j u k n : ℕ) (e : Bool) → first (channel a b) r.underWay ≡ some (sent j (reply u k n)) → RigInvariant y r
       → Invariant (settingOf y j) (onReply (settingOf y j) (view (localAt r j) (messagesOf j (withoutFirst (channel a b) r.underWay))) k n e)
   unfolding handled
@@ -153,6 +160,7 @@ module _ (y : System) (lw : Lawful y) where
       (λ h. clash true refl (rw (s, ij, h) at g))))
       (λ s. clash true refl (rw s at g))
 
+  -- the other arbiters see a site enter
   entered-other : (r : Rig) (j b n i : ℕ) → takes (settingOf y j) (localAt r j) b ≡ true → allHeld y (rowsTaken r j b n) b ≡ true → i ≢ j → RigInvariant y r → Invariant (settingOf y i) (entered (viewOf r i) b)
   entered-other r j b n i tk fu ne w =
       let m = eqb-true (r.sites.mode b) WAITING (and-split (eqb (r.sites.mode b) WAITING) (y.sets b j && eqb ((r.rows j) .held b) 0) tk .0) in
@@ -160,10 +168,12 @@ module _ (y : System) (lw : Lawful y) where
       let s = g .1 in
       entered-kept (settingOf y i) (localAt r i) (g .0) b (messagesOf i r.underWay) m (λ e. all-held r j b n i fu e ne) (s .core) (λ k x. s .inquiriesFit k) (s .freeQueueEmpty) (s .owed)
 
+  -- a reply that is not taken gives nobody the permission
   not-taken : (r : Rig) (j k n : ℕ) (ent : Bool) (i : ℕ) → takes (settingOf y j) (localAt r j) k ≡ false → (r.rows j) .held i ≡ 0 → (onReply (settingOf y j) (view (localAt r j) []) k n ent) .tables .held i ≡ 0
   unfolding onReply
   not-taken r j k n ent i tk h = rw tk h
 
+  -- a reply: where the site enters, every arbiter sees it
   reply-kept : (r : Rig) (a b j u k n : ℕ) → first (channel a b) r.underWay ≡ some (sent j (reply u k n)) → RigInvariant y r → RigInvariant y (delivered y r (withoutFirst (channel a b) r.underWay) j (reply u k n))
   unfolding delivered handled update entered FitsTables
   reply-kept r a b j u k n f w =
@@ -218,6 +228,7 @@ module _ (y : System) (lw : Lawful y) where
             ));
       }))
 
+  -- any message
   delivered-kept : (r : Rig) (a b j : ℕ) (m : Message) → first (channel a b) r.underWay ≡ some (sent j (m)) → RigInvariant y r → RigInvariant y (delivered y r (withoutFirst (channel a b) r.underWay) j m)
   unfolding delivered Simple update FitsTables
   delivered-kept r a b j (reply u k n) e w = reply-kept r a b j u k n e w
@@ -229,6 +240,7 @@ module _ (y : System) (lw : Lawful y) where
   delivered-kept r a b j (yield k n) e w = withEffect-kept r a b (sent j (yield k n)) r.clock (w .clockInRange) tt e w
   delivered-kept r a b j (transfer k x n) e w = withEffect-kept r a b (sent j (transfer k x n)) r.clock (w .clockInRange) tt e w
 
+  -- any delivery
   takenOff-kept : (r : Rig) (a b : ℕ) (x : Option Sent) → first (channel a b) r.underWay ≡ x → RigInvariant y r → RigInvariant y (takenOff y r a b x)
   unfolding takenOff
   takenOff-kept r a b none e w = w
@@ -237,6 +249,7 @@ module _ (y : System) (lw : Lawful y) where
       off : (r : Rig) (a b j : ℕ) (m : Message) → first (channel a b) r.underWay ≡ some (sent j (m)) → RigInvariant y r → RigInvariant y (delivered y r (withoutFirst (channel a b) r.underWay) j m)
       off r a b j m e w = delivered-kept r a b j m e w
 
+  -- any event; a refused one changes nothing
   step-kept : (r : Rig) (e : Event) → RigInvariant y r → RigInvariant y (step y r e)
   unfolding step
   step-kept r (ask s) w = by-bool ((leb 1 s && leb s y.size) && eqb (r.sites.mode s) REST)
@@ -253,6 +266,7 @@ module _ (y : System) (lw : Lawful y) where
   run-kept [] r w = w
   run-kept (e ∷ es) r w = run-kept es (step y r e) (step-kept r e w)
 
+  -- the fresh state
   pub fresh-kept : RigInvariant y fresh
   unfolding fresh messagesOf freshView
   fresh-kept = record { arbiters = λ j. fresh-invariant (settingOf y j) (law-of y lw j); inRange = λ k h. absurd (h refl); modeRange = λ k. omega arith; clockInRange = λ k h. absurd (h refl); lacksOne = λ k h. absurd (omega arith) }

@@ -1,3 +1,4 @@
+-- The messages of one arbiter within the list of the whole rig: what is sent, and what is taken off, as that arbiter sees it.
 use Prim.Native.Nat.{ℕ, zero, suc, _≤_}
 use mathlib.Core.Path.{_≡_, refl, sym, _∙_}
 use mathlib.Core.Logic.{_≢_}
@@ -12,12 +13,13 @@ use Rattle.protocol.specs.Message.{Message, between}
 use Rattle.protocol.specs.Rig.{Sent, messagesOf, sentBy, inOrder, channel}
 use Rattle.protocol.proofs.Basics.{by-bool}
 
--- lists
+-- a longer list
 pub messages-append : (j : ℕ) (xs ys : List Sent) → messagesOf j (xs ++ ys) ≡ messagesOf j xs ++ messagesOf j ys
 unfolding messagesOf
 messages-append j [] ys = refl
 messages-append j (x ∷ xs) ys = let ih = messages-append j xs ys in by-bool (eqb j x.arbiter) (λ e. rw (e, ih)) (λ e. rw (e, ih))
 
+-- what one arbiter sends, seen by itself and by another
 pub messages-sentBy : (j : ℕ) (ms : List Message) → messagesOf j (sentBy j ms) ≡ ms
 unfolding messagesOf sentBy
 messages-sentBy j [] = refl
@@ -28,6 +30,7 @@ unfolding messagesOf sentBy
 messages-other i j [] ne = refl
 messages-other i j (m ∷ ms) ne = rw (ne-eqb i j ne, messages-other i j ms ne)
 
+-- what all arbiters send, seen by one outside 1 to n and by one inside
 pub messages-none : (j n : ℕ) (f : ℕ → List Message) → ((1 ≤ j) → j ≤ n → ⊥) → messagesOf j (inOrder f n) ≡ []
 unfolding inOrder messagesOf
 messages-none j zero f h = refl
@@ -40,6 +43,7 @@ messages-inOrder j (suc n) f a b = by-bool (eqb j (suc n))
     (λ e. let je = eqb-true j (suc n) e in rw je (rw (messages-append, messages-none (suc n) n f (λ x y. omega arith), messages-sentBy (suc n) (f (suc n)))))
     (λ e. let ne = eqb-false j (suc n) e in rw (messages-append, messages-inOrder j n f a (omega arith), messages-other j (suc n) (f (suc n)) ne) (append-nil (f j)))
 
+-- what is taken off is the first of its channel also for its arbiter
 pub first-messages : (a b : ℕ) (xs : List Sent) (x : Sent) → first (channel a b) xs ≡ some x → first (between x.arbiter a b) (messagesOf x.arbiter xs) ≡ some x.message
 unfolding first messagesOf
 first-messages a b [] x e = let z : _≡_ {A = ℕ} 0 1 = cc in absurd (omega arith)
@@ -49,6 +53,7 @@ first-messages a b (y ∷ xs) x e = by-bool (channel a b y)
     (λ u. let w = eqb-true x.arbiter y.arbiter u in let t′ : between x.arbiter a b y.message ≡ false = rw w t in rw (u, t′) ih)
     (λ u. rw u ih))
 
+-- the rest of the list, for its arbiter and for another
 pub without-messages : (a b : ℕ) (xs : List Sent) (x : Sent) → first (channel a b) xs ≡ some x → messagesOf x.arbiter (withoutFirst (channel a b) xs) ≡ withoutFirst (between x.arbiter a b) (messagesOf x.arbiter xs)
 unfolding first messagesOf withoutFirst
 without-messages a b [] x e = refl

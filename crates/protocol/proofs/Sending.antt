@@ -1,3 +1,6 @@
+-- What taking a message off and sending one do to the messages under way of one arbiter. The message that is taken off may be
+-- thought to stand first: the order R2 is only ever about messages from one site to the arbiter, and of each such channel the
+-- first is taken. A message that carries no permission and is neither request nor return may be appended if it fits.
 use Prim.Native.Nat.{ℕ, _≤_}
 use mathlib.Core.Path.{_≡_, refl, sym, _∙_}
 use mathlib.Core.Logic.{_≢_}
@@ -14,6 +17,7 @@ use Rattle.protocol.proofs.Basics.{by-bool, clash, and-split}
 use Rattle.protocol.proofs.Lists.{tally-cons, tally-snoc, tally-snoc-no, all-snoc, first-holds, tally-without, all-without}
 use Rattle.protocol.proofs.Invariant.{siteOf, carriesPermission, isRequestOf, isReturnOf, isHandOver, Ordered, Situation, Fits, UnderWay}
 
+-- a return may be sent where no request of that site is under way
 pub ordered-snoc : (ms : List Message) (m : Message) → ((i : ℕ) → isReturnOf i m ≡ true → tally (isRequestOf i) ms ≡ 0) → Ordered ms → Ordered (ms ++ m ∷ [])
 unfolding Ordered tally
 ordered-snoc [] m h o = (λ i e. refl, tt)
@@ -25,6 +29,7 @@ ordered-snoc (x ∷ ms) m h o = (
   ordered-snoc ms m (λ i e. by-bool (isRequestOf i x) (λ t. let z = rw t at (h i e) in absurd (omega arith)) (λ t. rw t at (h i e))) (o .1),
 )
 
+-- to take off keeps the order
 pub ordered-without : (p : Message → Bool) (ms : List Message) (m : Message) → first p ms ≡ some m → Ordered ms → Ordered (withoutFirst p ms)
 unfolding Ordered first withoutFirst tally
 ordered-without p [] m e o = tt
@@ -79,6 +84,7 @@ return-from j i m r =
     let v = route-to j m (by-bool (eqb (kind m) REQUEST) (λ u. rw u) (λ u. rw u (w .0))) in
     rw (v .0, v .1, w .1, eq-eqb j j refl)
 
+-- no return of a site stands behind its request that is taken off
 pulled : (j a b : ℕ) (ms : List Message) (m : Message) → first (between j a b) ms ≡ some m → Ordered ms → (i : ℕ) → isRequestOf i m ≡ true → tally (isReturnOf i) (withoutFirst (between j a b) ms) ≡ 0
 unfolding Ordered first withoutFirst tally
 pulled j a b [] m e o i r = refl
@@ -92,6 +98,7 @@ pulled j a b (y ∷ ms) m e o i r =
     rw (t, nb) ih)
 
 module _ (p : Setting) where
+  -- the message that is taken off may stand first
   pub pull : {s : Situation} {known : ℕ → ℕ} (ms : List Message) (a b : ℕ) (m : Message) → first (between (p .arbiter) a b) ms ≡ some m → UnderWay p s known ms → UnderWay p s known (m ∷ withoutFirst (between (p .arbiter) a b) ms)
   unfolding Ordered
   pull {s} ms a b m e x = record {
@@ -113,6 +120,7 @@ module _ (p : Setting) where
     ordered = ordered-snoc ms m (λ i e. clash (isReturnOf i m) e (nb i)) (x .ordered);
   }
 
+  -- the three kinds
   pub send-fail : {s : Situation} {known : ℕ → ℕ} (ms : List Message) (k : ℕ) → p .member k ≡ true → UnderWay p s known ms → UnderWay p s known (ms ++ fail k ∷ [])
   unfolding Fits
   send-fail ms k h x = send-quiet ms (fail k) refl (λ i. refl) (λ i. refl) h x

@@ -1,3 +1,5 @@
+-- A site asks. It was at rest, so it held and remembered nothing, was known to no arbiter, and had no request under way; it may still be
+-- owner of a permission that it has released. Its new request goes behind its returns (R2), and is not known yet (R1).
 use Prim.Native.Nat.{ℕ, _≤_}
 use mathlib.Core.Path.{_≡_, refl, sym}
 use mathlib.Core.Logic.{inl, _≢_}
@@ -20,12 +22,15 @@ use Rattle.protocol.proofs.Seen.{askSeen}
 
 module _ (p : Setting) where
   module _ (t : Local) (k s : ℕ) (ms : List Message) (w : t.mode k ≡ REST) (l : 1 ≤ s) (o : Ghost) (c : Core p t o ms) where
+    -- the tables when k has asked
     waiting : Local
     waiting = withEntries (withSites t (update t.mode k 1) (update t.seq k s) (update t.failed k false)) (update t.held k 0) (update t.heir k 0) (update t.inquired k 0)
 
+    -- k is not known
     nk : (i : ℕ) → o.known i ≢ 0 → eqb i k ≡ false
     nk i h = ne-eqb i k (λ z. let y = c .asks .knownWaits i h .0 in let u : t.mode i ≡ REST = rw z w in omega arith)
 
+    -- k does not hold the permission
     no2 : o.stage ≡ HELD → o.owner ≢ k
     no2 z y =
         let x : t.mode o.owner ≡ REST = rw y w in
@@ -58,6 +63,7 @@ module _ (p : Setting) where
       remembered = λ i. by-bool (eqb i k) (λ e. rw e (λ x. absurd (x refl))) (λ e. rw e (c .column .remembered i));
     }
 
+    -- no request of k is under way
     quiet : tally (isRequestOf k) ms ≡ 0
     quiet = no-request p (situation t o.owner o.ahead o.stage) k ms (inl (λ z. omega arith)) (c .underWay .fit)
 
@@ -69,6 +75,7 @@ module _ (p : Setting) where
     unfolding waiting update
     ask-inquiriesFit m i = by-bool (eqb i k) (λ e. rw e (λ x. absurd (x refl))) (λ e. rw e (m i))
 
+    -- the messages, if k is a member and if not
     ask-underWay : p .member k ≡ true → UnderWayIn p waiting o (ms ++ request k s ∷ [])
     unfolding waiting update Fits
     ask-underWay mk = record {
@@ -102,6 +109,7 @@ module _ (p : Setting) where
       ascending = ascending-update p t.inquired k 0 ms (omega arith) (l .ascending);
     }
 
+  -- the event
   pub askSeen-kept : (t : Local) (k s : ℕ) (ms : List Message) → t.mode k ≡ REST → 1 ≤ s → Invariant p (view t ms) → Invariant p (askSeen p (view t ms) k s)
   unfolding askSeen waiting
   askSeen-kept t k s ms w l (o, v) =

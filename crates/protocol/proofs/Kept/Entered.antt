@@ -1,3 +1,5 @@
+-- A site enters. If it is a member, it holds the permission, so it is the owner; the arbiter forgets that it waits. If it is not, nothing
+-- of this arbiter speaks of it. Its remembered inquires are gone, so S4 and L3 hold whatever was remembered before.
 use Prim.Native.Nat.{ℕ}
 use mathlib.Core.Path.{_≡_, refl, sym}
 use mathlib.Core.Logic.{inr, _≢_}
@@ -17,6 +19,7 @@ use Rattle.protocol.proofs.Fitting.{fix, no-request, all-mode}
 use Rattle.protocol.proofs.Owing.{fix-owed, ascending-update}
 
 module _ (p : Setting) where
+  -- a member enters
   enter-member : (t : Local) (b d : ℕ) (known : ℕ → ℕ) (ms : List Message) → t.mode b ≡ WAITING → Core p t (ghost b d HELD known) ms → Core p ((entered (view t ms) b) .tables) (ghost b d HELD (update known b 0)) ms
   unfolding entered update
   enter-member t b d known ms w c =
@@ -54,6 +57,7 @@ module _ (p : Setting) where
         };
       }
 
+  -- a site enters that does not have this arbiter in its set
   enter-stranger : (t : Local) (o : Ghost) (b : ℕ) (ms : List Message) → t.mode b ≡ WAITING → p .member b ≡ false → Core p t o ms → Core p ((entered (view t ms) b) .tables) o ms
   unfolding entered update
   enter-stranger t o b ms w nm c =

@@ -86,6 +86,7 @@ module _ (p : Setting) where
   pub failSeen-kept : (t : Local) (b : ℕ) (ms : List Message) → Invariant p (view t ms) → Invariant p (onFail (view t ms) b)
   failSeen-kept t b ms (o, s) = onFail-core t o b ms (s .core) (s .inquiriesFit) (s .freeQueueEmpty) (λ k ne. s .owed .failOwed k) (s .owed .inquireOwed) (s .owed .ascending)
 
+  -- this arbiter's own fail
   pub onFail-kept : (t : Local) (b : ℕ) (ms : List Message) → Invariant p (view t (fail b ∷ ms)) → Invariant p (onFail (view t ms) b)
   unfolding All Ordered tally Ascending
   onFail-kept t b ms (o, s) =

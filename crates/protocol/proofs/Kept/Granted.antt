@@ -1,3 +1,6 @@
+-- The arbiter grants while the permission is free. The site granted is known, and its entry is its current number. Every other known site
+-- has been failed, or a fail is under way to it, since only the head may not be (L1); and no site left in the queue comes before the
+-- new holder, so that L2 asks for nothing.
 use Prim.Native.Nat.{ℕ, suc, _≤_}
 use mathlib.Core.Path.{_≡_, refl, sym, ap, _∙_}
 use mathlib.Core.Logic.{_≢_}
@@ -26,6 +29,7 @@ module _ (p : Setting) where
     pub ascending : (k : ℕ) → Ascending k (inquired k) ms
 
 module _ (p : Setting) (law : SettingLaw p) where
+  -- who is queued is a member
   pub queued-member : (t : Local) (o : Ghost) (ms : List Message) → Core p t o ms → (i : ℕ) → t.queued i ≢ 0 → p .member i ≡ true
   queued-member t o ms c i h =
       by-bool (eqb i o.owner)
@@ -36,6 +40,7 @@ module _ (p : Setting) (law : SettingLaw p) where
       (λ z. absurd (h (c .asks .emptyIfUnknown i (eqb-false i o.owner e) (eqb-true (o.known i) 0 z))))
       (λ z. c .asks .knownWaits i (eqb-false (o.known i) 0 z) .1))
 
+  -- the permission travels out
   granted-core : (t : Local) (known : ℕ → ℕ) (k n : ℕ) (ms : List Message) → Core p t (ghost 0 0 FREE known) ms → known k ≢ 0 → n ≡ t.seq k
       → Core p (withArbiter t (suc t.grant) k n (update t.queued k 0)) (ghost k 0 OUT known) (ms ++ reply (p .arbiter) k (suc t.grant) ∷ [])
   unfolding update Fits
@@ -82,6 +87,7 @@ module _ (p : Setting) (law : SettingLaw p) where
         };
       }
 
+  -- nothing new is owed
   granted-owed : (t : Local) (known : ℕ → ℕ) (k n : ℕ) (ms : List Message) → Core p t (ghost 0 0 FREE known) ms → known k ≢ 0 → n ≡ t.queued k → headOf p t.queued ≡ k → OwedWhenFree p t.queued t.failed t.inquired known ms
       → Owed p (suc t.grant) k n (update t.queued k 0) t.failed t.inquired k 0 1 known (ms ++ reply (p .arbiter) k (suc t.grant) ∷ [])
   granted-owed t known k n ms c kk nq hk l =
@@ -103,6 +109,7 @@ module _ (p : Setting) (law : SettingLaw p) where
           (λ e. let ne = eqb-false h k e in let o = update-other t.queued k 0 h ne in
           clash (p .comesBefore (t.queued h) h (t.queued k) k) (rw (o, nq) at b) (asym p law (t.queued k) k (t.queued h) h (a h (f .0) (f .1) (λ z. f .2 (o ∙ z)) ne)))
 
+  -- the grant of the head
   pub granted-kept : (t : Local) (known : ℕ → ℕ) (k n : ℕ) (ms : List Message) → Core p t (ghost 0 0 FREE known) ms → ((i : ℕ) → InquiryFits t i) → known k ≢ 0 → n ≡ t.queued k → n ≡ t.seq k
       → headOf p t.queued ≡ k → OwedWhenFree p t.queued t.failed t.inquired known ms → Invariant p (granted p (view t ms) k n)
   unfolding granted
@@ -129,6 +136,7 @@ module _ (p : Setting) (law : SettingLaw p) where
         },
       ))
 
+  -- the grant of the head, if any
   pub grantedHead-kept : (t : Local) (known : ℕ → ℕ) (ms : List Message) → Core p t (ghost 0 0 FREE known) ms → ((i : ℕ) → InquiryFits t i) → OwedWhenFree p t.queued t.failed t.inquired known ms → Invariant p (grantedHead p (view t ms))
   unfolding grantedHead
   grantedHead-kept t known ms c inquiriesFit l =

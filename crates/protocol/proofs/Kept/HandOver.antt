@@ -1,3 +1,6 @@
+-- A hand-over arrives. One of the current grant number comes from the holder, and its heir is the owner (T5): the arbiter hears of the
+-- hand-over and is no longer behind. The head of the rest is named to the new holder, and inquires it if it comes before. An older
+-- hand-over is late and changes nothing.
 use Prim.Native.Nat.{ℕ, suc, _≤_}
 use mathlib.Core.Path.{_≡_, refl, sym}
 use mathlib.Core.Logic.{_≢_}
@@ -21,6 +24,7 @@ use Rattle.protocol.proofs.Head.{head-of, head-remove}
 use Rattle.protocol.proofs.Kept.Granted.{queued-member}
 
 module _ (p : Setting) (law : SettingLaw p) where
+  -- the arbiter hears of the hand-over
   heard : (t : Local) (x stage : ℕ) (known : ℕ → ℕ) (k n : ℕ) (ms : List Message) → Core p t (ghost x 1 stage known) (handOver k x n ∷ ms)
       → Core p (withArbiter t (suc t.grant) x (t.queued x) (update t.queued x 0)) (ghost x 0 stage known) ms
   unfolding update All Ordered tally
@@ -64,6 +68,7 @@ module _ (p : Setting) (law : SettingLaw p) where
         };
       }
 
+  -- the heir is the holder; the head of the rest is named and may inquire
   heirTakesOver-kept : (t : Local) (x stage : ℕ) (known : ℕ → ℕ) (k n : ℕ) (ms : List Message) → Core p t (ghost x 1 stage known) (handOver k x n ∷ ms) → ((i : ℕ) → InquiryFits t i)
       → OwedIn p t (ghost x 1 stage known) (handOver k x n ∷ ms) → Invariant p (heirTakesOver p (view t ms) x)
   unfolding heirTakesOver tally Ascending
@@ -129,6 +134,7 @@ module _ (p : Setting) (law : SettingLaw p) where
         },
       )))
 
+  -- the rule
   pub onHandOver-kept : (t : Local) (k x n : ℕ) (ms : List Message) → Invariant p (view t (handOver k x n ∷ ms)) → Invariant p (onHandOver p (view t ms) k x n)
   unfolding onHandOver All Fits Ordered tally Ascending
   onHandOver-kept t k x n ms (o, s) =

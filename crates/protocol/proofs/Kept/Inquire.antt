@@ -21,6 +21,7 @@ use Rattle.protocol.proofs.Owing.{ascending-low}
 use Rattle.protocol.proofs.Kept.Yielded.{yielded-kept, yielder}
 
 module _ (p : Setting) where
+  -- the rule
   pub onInquire-kept : (t : Local) (b n : ℕ) (ms : List Message) → Invariant p (view t (inquire b n ∷ ms)) → Invariant p (onInquire (view t ms) b n)
   unfolding onInquire All Ordered tally update Fits Ascending
   onInquire-kept t b n ms (o, s) =

@@ -1,3 +1,6 @@
+-- A site leaves. If it is a member, it holds the permission. With no heir, the permission travels back in a release. With an heir, by T7
+-- the arbiter is not behind and the heir is queued; it waits for the permission with its current number, and the permission travels
+-- out to it, one number ahead of the arbiter, with the hand-over under way that will tell.
 use Prim.Native.Nat.{ℕ, suc, _+_, _≤_}
 use mathlib.Core.Path.{_≡_, refl, sym, ap, _∙_}
 use mathlib.Core.Logic.{inl, inr, _≢_}
@@ -23,6 +26,7 @@ module _ (p : Setting) (law : SettingLaw p) where
   abbrev departed : Local → ℕ → Local
   departed t k = withEntries (withSites t (update t.mode k 0) t.seq t.failed) (update t.held k 0) (update t.heir k 0) (update t.inquired k 0)
 
+  -- a site leaves that does not have this arbiter in its set
   leave-stranger : (t : Local) (o : Ghost) (k : ℕ) (ms : List Message) → t.mode k ≡ INSIDE → p .member k ≡ false → Core p t o ms → Core p (departed t k) o ms
   unfolding update
   leave-stranger t o k ms w nm c =
@@ -98,6 +102,7 @@ module _ (p : Setting) (law : SettingLaw p) where
     unfolding update
     l-all owner d′ stage a = all-mode p (situation t owner d′ stage) _ _ k ms (λ i ne. (rw (ne-eqb i k ne), refl)) none-of a
 
+    -- no heir: the permission travels back
     leave-plain : Core p (departed t k) (ghost k d RELEASED known) (ms ++ release k (t.held k) ∷ [])
     unfolding update Fits
     leave-plain =
@@ -127,6 +132,7 @@ module _ (p : Setting) (law : SettingLaw p) where
           };
         }
 
+  -- with an heir: the permission travels on
   leave-heir : (t : Local) (k x : ℕ) (known : ℕ → ℕ) (ms : List Message) → t.mode k ≡ INSIDE → t.queued x ≢ 0 → Core p t (ghost k 0 HELD known) ms
       → Core p (departed t k) (ghost x 1 OUT known) ((ms ++ reply k x (suc (t.held k)) ∷ []) ++ handOver k x (t.held k) ∷ [])
   unfolding update Fits
@@ -183,6 +189,7 @@ module _ (p : Setting) (law : SettingLaw p) where
   unfolding update
   inquiriesFit-left t k i m = by-bool (eqb i k) (λ e. rw e (λ x. absurd (x refl))) (λ e. rw e m)
 
+  -- the event
   pub leaveSeen-kept : (t : Local) (k : ℕ) (ms : List Message) → t.mode k ≡ INSIDE → Invariant p (view t ms) → Invariant p (leaveSeen p (view t ms) k)
   unfolding leaveSeen
   leaveSeen-kept t k ms w (o, s) =

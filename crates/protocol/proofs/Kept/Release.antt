@@ -22,6 +22,7 @@ use Rattle.protocol.proofs.Kept.Granted.{grantedHead-kept}
 use Rattle.protocol.proofs.Kept.Returned.{back-home}
 
 module _ (p : Setting) (law : SettingLaw p) where
+  -- the rule, with the ghosts put to the message's names
   release-fixed : (t : Local) (k d : ℕ) (known : ℕ → ℕ) (n : ℕ) (ms : List Message) → Core p t (ghost k d RELEASED known) (release k n ∷ ms) → ((i : ℕ) → InquiryFits t i)
       → OwedIn p t (ghost k d RELEASED known) (release k n ∷ ms) → Invariant p (onRelease p (view t ms) k n)
   unfolding onRelease earlyRelease All Fits Ordered tally update Ascending
@@ -45,6 +46,7 @@ module _ (p : Setting) (law : SettingLaw p) where
       (c .arbiter) (c .asks) (c .column) (omega arith) (c .underWay .requests) (c .underWay .fit .1) (c .underWay .ordered .1)) inquiriesFit
       (record { failOwed = λ i x f z. head-remove p law t.queued i k (l .failOwed i x (ik i x) f z .0) (λ y. let w = law .siteInRange i (c .asks .knownWaits i x .1) in omega arith) (ik i x); ascending = λ i. l .ascending i .1 })))
 
+  -- the rule
   pub onRelease-kept : (t : Local) (k n : ℕ) (ms : List Message) → Invariant p (view t (release k n ∷ ms)) → Invariant p (onRelease p (view t ms) k n)
   unfolding All Fits
   onRelease-kept t k n ms (o, s) =

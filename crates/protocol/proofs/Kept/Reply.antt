@@ -1,3 +1,6 @@
+-- A reply arrives. It is the permission (T1), so its site is the owner, waits, and does not hold it yet: a reply is never lost. Now it is
+-- held. A remembered inquire of another number is forgotten; L2 asks for one of this number only. The site may then enter, or, if it
+-- is failed and remembers an inquire of this number, yield.
 use Prim.Native.Nat.{ℕ, _≤_}
 use mathlib.Core.Path.{_≡_, refl, sym, _∙_}
 use mathlib.Core.Logic.{_≢_}
@@ -21,9 +24,11 @@ use Rattle.protocol.proofs.Kept.Entered.{entered-kept}
 
 module _ (p : Setting) where
   module _ (t : Local) (b d : ℕ) (known : ℕ → ℕ) (f n : ℕ) (ms : List Message) (c : Core p t (ghost b d OUT known) (reply f b n ∷ ms)) where
+    -- the tables when b has taken the reply
     afterReply : Local
     afterReply = withEntries t (update t.held b n) t.heir (update t.inquired b (cond (eqb (t.inquired b) n) n 0))
 
+    -- the permission is held
     reply-core : Core p afterReply (ghost b d HELD known) ms
     unfolding afterReply update Fits All Ordered tally
     reply-core =
@@ -68,6 +73,7 @@ module _ (p : Setting) where
     unfolding afterReply update
     reply-inquiriesFit m k ne = rw (ne-eqb k b ne) (m k)
 
+    -- what is owed stays
     reply-owed : OwedIn p t (ghost b d OUT known) (reply f b n ∷ ms) → OwedIn p afterReply (ghost b d HELD known) ms
     unfolding afterReply update All Fits tally Ascending
     reply-owed l =
@@ -79,6 +85,7 @@ module _ (p : Setting) where
           ascending = ascending-update p t.inquired b _ ms (by-bool (eqb (t.inquired b) n) (λ e. rw e (let y = eqb-true (t.inquired b) n e in omega arith)) (λ e. rw e (omega arith))) (λ k. l .ascending k .1);
         }
 
+    -- then the site enters, yields, or does neither
     reply-fixed : ((i : ℕ) → InquiryFits t i) → (enters : Bool) → OwedIn p t (ghost b d OUT known) (reply f b n ∷ ms) → Invariant p (onReply p (view t ms) b n enters)
     unfolding onReply afterReply update All Fits tally
     reply-fixed m enters lv =
@@ -115,6 +122,7 @@ module _ (p : Setting) where
           },
         ))))
 
+  -- the rule
   pub onReply-kept : (t : Local) (f b n : ℕ) (ms : List Message) (enters : Bool) → Invariant p (view t (reply f b n ∷ ms)) → Invariant p (onReply p (view t ms) b n enters)
   unfolding All Fits
   onReply-kept t f b n ms enters (o, s) =

@@ -1,3 +1,6 @@
+-- A request arrives. Its site is not known, and no return of it is under way, since none stands behind its request (R2): so it is neither
+-- owner nor holder, and is not queued. With the permission free it is granted at once. Else it is queued; if it becomes the head, the
+-- former head is told where L1 asks for it, and the holder is inquired where L2 asks for it; if not, it is told itself.
 use Prim.Native.Nat.{ℕ, _≤_}
 use mathlib.Core.Path.{_≡_, refl, sym, _∙_}
 use mathlib.Core.Logic.{_≢_}
@@ -22,6 +25,7 @@ use Rattle.protocol.proofs.Kept.Granted.{OwedWhenFree, queued-member, g
 
 module _ (p : Setting) (law : SettingLaw p) where
   module _ (t : Local) (o : Ghost) (k n : ℕ) (ms : List Message) (c : Core p t o (request k n ∷ ms)) where
+    -- k is not known, has no other request and no return under way
     new-request : (o.known k ≡ 0) × (tally (isRequestOf k) ms ≡ 0) × (tally (isReturnOf k) ms ≡ 0) × (1 ≤ k) × (1 ≤ n)
     unfolding All Fits Ordered tally
     new-request =
@@ -30,6 +34,7 @@ module _ (p : Setting) (law : SettingLaw p) where
         let w = c .asks .waitingNumbered k (ok .0) in
         (omega arith, omega arith, c .underWay .ordered .0 k (eq-eqb k k refl), law .siteInRange k (ok .2) .0, omega arith)
 
+    -- k is not the owner
     not-own : k ≢ o.owner
     unfolding All Fits Ordered tally
     not-own z =
@@ -49,6 +54,7 @@ module _ (p : Setting) (law : SettingLaw p) where
         let bk : tally (isReturnOf o.owner) ms ≡ 0 = rw (← z) (f .2) in
         omega arith))))
 
+    -- k is not the holder
     not-holder : k ≢ t.holder
     unfolding All tally
     not-holder z =
@@ -60,6 +66,7 @@ module _ (p : Setting) (law : SettingLaw p) where
         let bk : tally (isReturnOf t.holder) ms ≡ 0 = rw (← z) (f .2) in
         omega arith)
 
+    -- k is queued
     queued-core : Core p (withArbiter t t.grant t.holder t.holderSeq (update t.queued k n)) (ghost o.owner o.ahead o.stage (update o.known k 1)) ms
     unfolding update All Fits Ordered tally
     queued-core =
@@ -157,6 +164,7 @@ module _ (p : Setting) (law : SettingLaw p) where
             },
           ))
 
+  -- who was queued is queued
   old-at : (t : Local) (k n i : ℕ) → 1 ≤ n → t.queued i ≢ 0 → update t.queued k n i ≢ 0
   unfolding update
   old-at t k n i l y = by-bool (eqb i k) (λ e. rw e (λ z. omega arith)) (λ e. rw e y)
@@ -205,6 +213,7 @@ module _ (p : Setting) (law : SettingLaw p) where
         ascending = λ i. ascending-other i (t.inquired i) ms (fail k) refl (l .ascending i .1);
       }
 
+  -- the rule
   pub onRequest-kept : (t : Local) (k n : ℕ) (ms : List Message) → Invariant p (view t (request k n ∷ ms)) → Invariant p (onRequest p (view t ms) k n)
   unfolding onRequest queuedUp answers Ascending tally
   onRequest-kept t k n ms (o, s) =

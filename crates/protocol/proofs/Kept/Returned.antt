@@ -19,6 +19,7 @@ use Rattle.protocol.proofs.Invariant.{FREE, HELD, ghost, carriesPermiss
 use Rattle.protocol.proofs.Fitting.{fits-change}
 
 module _ (p : Setting) (law : SettingLaw p) where
+  -- k had the permission; g′ and q′ are the new grant number and queue
   pub back-home : (t : Local) (k d stage : ℕ) (known : ℕ → ℕ) (ms : List Message) (g′ : ℕ) (q′ : ℕ → ℕ) → stage ≢ FREE → stage ≢ HELD → g′ ≡ t.grant + d
       → ((i : ℕ) → i ≢ k → q′ i ≡ t.queued i) → (known k ≢ 0 → q′ k ≡ t.seq k) → (known k ≡ 0 → q′ k ≡ 0)
       → ArbiterRow p t.grant t.holder t.holderSeq t.queued k d stage → Asks p t.holderSeq t.queued t.mode t.seq t.failed k d stage known → Column p t.grant t.queued t.mode t.held t.heir t.inquired k d stage

@@ -1,3 +1,6 @@
+-- A transfer arrives at a site. If the site holds the transfer's number, that number is at most the grant number (T6), so the site is the
+-- owner, the arbiter is not behind and the number is the grant number: then the named heir is queued (T6), as T7 asks.
+-- Else nothing changes.
 use Prim.Native.Nat.{ℕ, _+_, _≤_}
 use mathlib.Core.Path.{_≡_, _∙_}
 use mathlib.Core.List.{List, _∷_}
@@ -14,6 +17,7 @@ use Rattle.protocol.proofs.Lists.{All}
 use Rattle.protocol.proofs.Invariant.{Ordered, Ascending, Fits, OwedIn, UnderWayIn, Invariant}
 
 module _ (p : Setting) (law : SettingLaw p) where
+  -- the rule
   pub onTransfer-kept : (t : Local) (b x n : ℕ) (ms : List Message) → Invariant p (view t (transfer b x n ∷ ms)) → Invariant p (onTransfer (view t ms) b x n)
   unfolding onTransfer Fits All Ordered tally update Ascending
   onTransfer-kept t b x n ms (o, s) =

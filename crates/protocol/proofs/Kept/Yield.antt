@@ -22,6 +22,7 @@ use Rattle.protocol.proofs.Kept.Granted.{grantedHead-kept}
 use Rattle.protocol.proofs.Kept.Returned.{back-home}
 
 module _ (p : Setting) (law : SettingLaw p) where
+  -- the rule, with the ghosts put to the message's names
   yield-fixed : (t : Local) (k : ℕ) (known : ℕ → ℕ) (n : ℕ) (ms : List Message) → Core p t (ghost k 0 YIELDED known) (yield k n ∷ ms) → ((i : ℕ) → InquiryFits t i)
       → OwedIn p t (ghost k 0 YIELDED known) (yield k n ∷ ms) → Invariant p (onYield p (view t ms) k n)
   unfolding onYield All Fits Ordered tally update Ascending
@@ -46,6 +47,7 @@ module _ (p : Setting) (law : SettingLaw p) where
             (λ m lo hi. by-bool (eqb m k) (λ b. rw (b, e) (λ q0 nm. rw (eqb-true m k b, kh) (w .1))) (λ b. rw (b, e) (a m lo hi))));
       }))
 
+  -- the rule
   pub onYield-kept : (t : Local) (k n : ℕ) (ms : List Message) → Invariant p (view t (yield k n ∷ ms)) → Invariant p (onYield p (view t ms) k n)
   unfolding All Fits
   onYield-kept t k n ms (o, s) =
