@@ -2,7 +2,7 @@
 use Prim.Native.Nat.{ℕ, zero, suc, _≤_, _<_}
 use mathlib.Core.Path.{_≡_, refl, sym, fun-ext}
 use mathlib.Core.Logic.{_⊎_, inl, inr, _≢_}
-use mathlib.Core.Bool.{Bool, true, false, _&&_}
+use mathlib.Core.Bool.{Bool, true, false, not, _&&_}
 use native.Mathlib.Omega.{arith}
 use native.Mathlib.Nat.{not-suc-le-zero}
 use lib.Dec.{eqb}
@@ -21,6 +21,12 @@ clash b p q = let z : _≡_ {A = ℕ} 0 1 = cc in absurd (omega arith)
 pub and-split : (a b : Bool) → a && b ≡ true → (a ≡ true) × (b ≡ true)
 and-split true b e = (refl, e)
 and-split false b e = clash false e refl
+
+pub and-true : (a b : Bool) → a ≡ true → b ≡ true → a && b ≡ true
+and-true a b e f = rw (e, f)
+
+pub not-true : (a : Bool) → a ≡ false → not a ≡ true
+not-true a e = rw e
 
 -- Tables
 

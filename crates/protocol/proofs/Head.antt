@@ -9,7 +9,7 @@ use lib.Dec.{eqb}
 use borrow.Author.Tests.{eqb-true, eqb-false, eq-eqb, ne-eqb}
 use Rattle.protocol.specs.Helpers.{update}
 use Rattle.protocol.specs.Setting.{Setting, SettingLaw}
-use Rattle.protocol.specs.Arbiter.{head, headOf}
+use Rattle.protocol.specs.Arbiter.{goesFirst, head, headOf}
 use Rattle.protocol.proofs.Basics.{by-bool, clash}
 
 module _ (p : Setting) where
@@ -44,7 +44,7 @@ module _ (p : Setting) (law : SettingLaw p) where
         comesFirst = λ u i a b c d. absurd (c (r .empty w i a (low i b d)));
       }))
       (λ g. let w = eqb-false (head p q n) 0 g in
-      by-bool (p .comesBefore (q (suc n)) (suc n) (q (head p q n)) (head p q n))
+      by-bool (goesFirst p q (suc n) (head p q n))
       (λ f. rw (e, g, f) (record {
         empty = λ u. absurd (omega arith);
         found = λ u. (omega arith, omega arith, z);

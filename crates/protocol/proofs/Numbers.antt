@@ -11,8 +11,8 @@ use Rattle.protocol.specs.Helpers.{update, first, withoutFirst}
 use Rattle.protocol.specs.Message.{Message, request, reply, release, handOver, inquire, fail, yield, transfer}
 use Rattle.protocol.specs.Setting.{Setting}
 use Rattle.protocol.specs.Local.{REST, WAITING, INSIDE, Local, View, view, send, withArbiter, withEntries, withQueued}
-use Rattle.protocol.specs.Arbiter.{fromHolder, headOf, beforeHolder, granted, grantedHead, failFormer, inquireOrFail, answers, queuedUp, onRequest, earlyRelease, onRelease, heirTakesOver, onHandOver, onYield}
-use Rattle.protocol.specs.Site.{yielded, entered, onInquire, onFail, onTransfer, takes, onReply, handled}
+use Rattle.protocol.specs.Arbiter.{fromHolder, heldByHeir, headOf, beforeHolder, granted, grantedHead, formerTold, failFormer, inquireOrFail, answers, queuedUp, onRequest, earlyRelease, onRelease, heirTakesOver, onHandOver, onYield}
+use Rattle.protocol.specs.Site.{yielded, entered, onInquire, onFail, namesHeld, onTransfer, takes, onReply, handled}
 use Rattle.protocol.specs.System.{System, settingOf}
 use Rattle.protocol.specs.Rig.{Row, Sent, Rig, rowOf, sentBy, inOrder, channel, Event, ask, leave, deliver, withoutEntries, localAt, rowsTaken, asked, left, allHeld, withEffect, delivered, takenOff, step, run, fresh}
 use Rattle.protocol.proofs.Basics.{by-bool}
@@ -86,7 +86,7 @@ onInquire-bounded b t k n l s =
 
 onTransfer-bounded : (b : ℕ) (t : Local) (k x n : ℕ) → LocalBelow b t → ViewBelow b (onTransfer (view t []) k x n)
 unfolding onTransfer
-onTransfer-bounded b t k x n s = by-bool (eqb n (t.held k))
+onTransfer-bounded b t k x n s = by-bool (namesHeld t k n)
     (λ e. rw e (nothing b _ (record { grant = s .grant; holderSeq = s .holderSeq; queued = s .queued; held = s .held; inquired = s .inquired })))
     (λ e. rw e (nothing b t s))
 
@@ -114,7 +114,7 @@ module _ (p : Setting) where
   answers-bounded : (b : ℕ) (t : Local) (k former : ℕ) → LocalBelow b t → ViewBelow b (answers p (view t []) k former)
   unfolding answers failFormer inquireOrFail
   answers-bounded b t k former s = by-bool (eqb (headOf p t.queued) k)
-      (λ h. by-bool (not (eqb former 0) && (not (eqb former k) && beforeHolder p t former))
+      (λ h. by-bool (formerTold p t k former)
       (λ e. rw (h, e) (ends _ (s .grant) (send-bounded b _ (fail former) (omega arith) (nothing b t s))))
       (λ e. rw (h, e) (ends _ (s .grant) (nothing b t s))))
       (λ h. rw h (send-bounded b _ (fail k) (omega arith) (nothing b t s)))
@@ -147,7 +147,7 @@ module _ (p : Setting) where
   unfolding onHandOver heirTakesOver
   onHandOver-bounded b t k x n s =
       let g = s .grant in let qx = s .queued x in
-      let u : LocalBelow (suc b) (withArbiter t (suc t.grant) x (t.queued x) (update t.queued x 0)) = record { grant = omega arith; holderSeq = omega arith; queued = update-bounded t.queued x 0 (suc b) (omega arith) (λ i. let z = s .queued i in omega arith); held = λ i. let z = s .held i in omega arith; inquired = λ i. let z = s .inquired i in omega arith } in
+      let u : LocalBelow (suc b) (heldByHeir t x) = record { grant = omega arith; holderSeq = omega arith; queued = update-bounded t.queued x 0 (suc b) (omega arith) (λ i. let z = s .queued i in omega arith); held = λ i. let z = s .held i in omega arith; inquired = λ i. let z = s .inquired i in omega arith } in
       let h = headOf p (update t.queued x 0) in
       by-bool (fromHolder t k n)
       (λ e. by-bool (eqb (t.queued x) 0)

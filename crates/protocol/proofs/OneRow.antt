@@ -11,8 +11,8 @@ use Rattle.protocol.specs.Helpers.{update}
 use Rattle.protocol.specs.Message.{Message, request, reply, release, handOver, inquire, fail, yield, transfer}
 use Rattle.protocol.specs.Setting.{Setting}
 use Rattle.protocol.specs.Local.{WAITING, Local, View, view, withArbiter, withQueued}
-use Rattle.protocol.specs.Arbiter.{fromHolder, headOf, beforeHolder, granted, grantedHead, failFormer, inquireOrFail, answers, queuedUp, onRequest, earlyRelease, onRelease, heirTakesOver, onHandOver, onYield}
-use Rattle.protocol.specs.Site.{yielded, entered, onInquire, onFail, onTransfer, onReply, handled}
+use Rattle.protocol.specs.Arbiter.{fromHolder, headOf, beforeHolder, granted, grantedHead, formerTold, failFormer, inquireOrFail, answers, queuedUp, onRequest, earlyRelease, onRelease, heirTakesOver, onHandOver, onYield}
+use Rattle.protocol.specs.Site.{yielded, entered, onInquire, onFail, namesHeld, onTransfer, onReply, handled}
 use Rattle.protocol.specs.Rig.{localOf, rowOf, sitesOf}
 use Rattle.protocol.proofs.Basics.{by-bool, and-split, update-marked}
 
@@ -37,7 +37,7 @@ module _ (p : Setting) where
   answers-row : (t : Local) (k former : ℕ) (ms : List Message) → OneRow (λ v. answers p v k former) t ms
   unfolding answers failFormer inquireOrFail
   answers-row t k former ms = by-bool (eqb (headOf p t.queued) k)
-      (λ h. by-bool (not (eqb former 0) && (not (eqb former k) && beforeHolder p t former))
+      (λ h. by-bool (formerTold p t k former)
       (λ e. by-bool (beforeHolder p t k) (λ f. rw (h, e, f) (simp append-assoc, λ i z. z)) (λ f. rw (h, e, f) (simp append-assoc, λ i z. z)))
       (λ e. by-bool (beforeHolder p t k) (λ f. rw (h, e, f) (simp append-assoc, λ i z. z)) (λ f. rw (h, e, f) (simp append-assoc, λ i z. z))))
       (λ h. rw h (refl, λ i z. z))
@@ -80,7 +80,7 @@ module _ (p : Setting) where
 
   onTransfer-row : (t : Local) (b x n : ℕ) (ms : List Message) → OneRow (λ v. onTransfer v b x n) t ms
   unfolding onTransfer
-  onTransfer-row t b x n ms = by-bool (eqb n (t.held b))
+  onTransfer-row t b x n ms = by-bool (namesHeld t b n)
       (λ e. rw e (rw append-nil, λ i h. h))
       (λ e. rw e (rw append-nil, λ i h. h))
 

@@ -1,5 +1,5 @@
 -- Document 01, "One event": what the arbiter does with a request, a release or a yield. Each rule has the name that it has in the
--- crate `model`, takes the message off the list beforehand, and appends what is sent.
+-- crate `model`. It starts when the message is off the list, and appends what it sends.
 use Prim.Native.Nat.{ℕ, zero, suc}
 use mathlib.Core.Bool.{Bool, not, _&&_, cond}
 use lib.Dec.{eqb}
@@ -16,13 +16,21 @@ fromHolder t k n = eqb n t.grant && eqb k t.holder
 abbrev pub isEarly : Local → ℕ → ℕ → Bool
 isEarly t k n = eqb n (suc t.grant) && not (eqb (t.queued k) 0)
 
+-- "the heir leaves the queue, g + 1, the heir is holder"
+abbrev pub heldByHeir : Local → ℕ → Local
+heldByHeir t x = withArbiter t (suc t.grant) x (t.queued x) (update t.queued x 0)
+
 module _ (p : Setting) where
+  -- queued site k comes before queued site h
+  abbrev pub goesFirst : (ℕ → ℕ) → ℕ → ℕ → Bool
+  goesFirst q k h = p .comesBefore (q k) k (q h) h
+
   -- the head, once site k is looked at: h is the head of the sites below k, 0 none
   abbrev pub headWith : (ℕ → ℕ) → ℕ → ℕ → ℕ
   headWith q k h =
       cond (eqb (q k) 0) h
       (cond (eqb h 0) k
-      (cond (p .comesBefore (q k) k (q h) h) k h))
+      (cond (goesFirst q k h) k h))
 
   -- "The head is the queued site that comes before all others queued": of the sites 1 to n; 0 where none is queued
   unfoldable pub head : (ℕ → ℕ) → ℕ → ℕ
@@ -32,7 +40,7 @@ module _ (p : Setting) where
   abbrev pub headOf : (ℕ → ℕ) → ℕ
   headOf q = head q (p .size)
 
-  -- the site, queued with number n, comes before the holder
+  -- queued site k comes before the holder
   abbrev pub beforeHolder : Local → ℕ → Bool
   beforeHolder t k = p .comesBefore (t.queued k) k t.holderSeq t.holder
 
@@ -52,9 +60,11 @@ module _ (p : Setting) where
       cond (eqb h 0) v (granted v h (v.tables.queued h))
 
   -- "fail to the former head (before k was queued), if there was one other than k and it comes before the holder"
+  abbrev pub formerTold : Local → ℕ → ℕ → Bool
+  formerTold t k former = not (eqb former 0) && (not (eqb former k) && beforeHolder t former)
+
   unfoldable pub failFormer : View → ℕ → ℕ → View
-  failFormer v k former =
-      cond (not (eqb former 0) && (not (eqb former k) && beforeHolder v.tables former)) (send v (fail former)) v
+  failFormer v k former = cond (formerTold v.tables k former) (send v (fail former)) v
 
   -- "then inquire to the holder if k comes before it, else fail to k"
   unfoldable pub inquireOrFail : View → ℕ → View
@@ -92,7 +102,7 @@ module _ (p : Setting) where
   -- head goes to it, then an inquire if the head comes before it"
   unfoldable pub heirTakesOver : View → ℕ → View
   heirTakesOver v x =
-      let t = withArbiter v.tables (suc v.tables.grant) x (v.tables.queued x) (update v.tables.queued x 0) in
+      let t = heldByHeir v.tables x in
       let h = headOf t.queued in
       let w = send (view t v.messages) (transfer x h t.grant) in
       cond (eqb h 0) (view t v.messages)

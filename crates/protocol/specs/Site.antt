@@ -50,11 +50,15 @@ onFail v b =
     (view (withSites t t.mode t.seq (update t.failed b true)) v.messages))
     v
 
--- "Transfer from j whose number the site holds for j: the heir of j becomes the named site, in place of any older one."
+-- "Transfer from j whose number the site holds for j"
+abbrev pub namesHeld : Local → ℕ → ℕ → Bool
+namesHeld t b n = eqb n (t.held b)
+
+-- "the heir of j becomes the named site, in place of any older one."
 unfoldable pub onTransfer : View → ℕ → ℕ → ℕ → View
 onTransfer v b x n =
     let t = v.tables in
-    cond (eqb n (t.held b)) (view (withEntries t t.held (update t.heir b x) t.inquired) v.messages) v
+    cond (namesHeld t b n) (view (withEntries t t.held (update t.heir b x) t.inquired) v.messages) v
 
 module _ (p : Setting) where
   -- "Reply about j, to a waiting site with member j not held"

@@ -12,8 +12,8 @@ use borrow.Author.Tests.{eqb-true, eqb-false, eq-eqb, ne-eqb}
 use Rattle.protocol.specs.Helpers.{update, tally}
 use Rattle.protocol.specs.Message.{Message, handOver, inquire, transfer}
 use Rattle.protocol.specs.Setting.{Setting, SettingLaw}
-use Rattle.protocol.specs.Local.{Local, view, withArbiter}
-use Rattle.protocol.specs.Arbiter.{fromHolder, headOf, heirTakesOver, onHandOver}
+use Rattle.protocol.specs.Local.{Local, view}
+use Rattle.protocol.specs.Arbiter.{fromHolder, heldByHeir, headOf, heirTakesOver, onHandOver}
 use Rattle.protocol.proofs.Basics.{by-bool, clash, and-split, update-other}
 use Rattle.protocol.proofs.Lists.{All, all-map, snoc-pos, snoc-zero}
 use Rattle.protocol.proofs.Invariant.{FREE, ghost, isHandOver, isFailTo, isInquire, Ordered, Ascending, InquiryFits, Fits, OwedIn, Core, Invariant}
@@ -26,7 +26,7 @@ use Rattle.protocol.proofs.Kept.Granted.{queued-member}
 module _ (p : Setting) (law : SettingLaw p) where
   -- the arbiter hears of the hand-over
   heard : (t : Local) (x stage : ℕ) (known : ℕ → ℕ) (k n : ℕ) (ms : List Message) → Core p t (ghost x 1 stage known) (handOver k x n ∷ ms)
-      → Core p (withArbiter t (suc t.grant) x (t.queued x) (update t.queued x 0)) (ghost x 0 stage known) ms
+      → Core p (heldByHeir t x) (ghost x 0 stage known) ms
   unfolding update All Ordered tally
   heard t x stage known k n ms c =
       let ov = c .arbiter .handedOver (λ z. omega arith) in

@@ -3,6 +3,7 @@
 use Prim.Native.Nat.{ℕ, suc}
 use mathlib.Core.Path.{_≡_, refl, sym, ap, _∙_}
 use mathlib.Core.Logic.{_≢_}
+use mathlib.Core.Bool.{true, false, not}
 use mathlib.Core.List.{List, _∷_}
 use native.Mathlib.Omega.{arith}
 use lib.Dec.{eqb}
@@ -11,8 +12,8 @@ use Rattle.protocol.specs.Helpers.{update, tally}
 use Rattle.protocol.specs.Message.{Message, release}
 use Rattle.protocol.specs.Setting.{Setting, SettingLaw}
 use Rattle.protocol.specs.Local.{Local, view}
-use Rattle.protocol.specs.Arbiter.{earlyRelease, onRelease}
-use Rattle.protocol.proofs.Basics.{by-bool}
+use Rattle.protocol.specs.Arbiter.{fromHolder, isEarly, earlyRelease, onRelease}
+use Rattle.protocol.proofs.Basics.{by-bool, and-split, and-true, not-true}
 use Rattle.protocol.proofs.Lists.{All}
 use Rattle.protocol.proofs.Invariant.{RELEASED, ghost, Ordered, Ascending, InquiryFits, Fits, OwedIn, Core, Invariant}
 use Rattle.protocol.proofs.Fitting.{fix}
@@ -35,14 +36,17 @@ module _ (p : Setting) (law : SettingLaw p) where
       by-bool (eqb d 0)
       (λ e. let d0 = eqb-true d 0 e in
       let kh : k ≡ t.holder = c .arbiter .ownerIsHolder d0 in
-      rw (eq-eqb n t.grant (omega arith), eq-eqb k t.holder kh)
-      (grantedHead-kept p law _ known ms (back-home p law t k d 4 known ms t.grant t.queued (λ z. omega arith) (λ z. omega arith) (omega arith) (λ i ne. refl) (λ z. absurd (z kk)) (λ z. rw kh (c .arbiter .holderNotQueued))
+      let now : fromHolder t k n ≡ true = and-true (eqb n t.grant) (eqb k t.holder) (eq-eqb n t.grant (omega arith)) (eq-eqb k t.holder kh) in
+      rw now
+      (grantedHead-kept p law _ known ms (back-home p law t k d RELEASED known ms t.grant t.queued (λ z. omega arith) (λ z. omega arith) (omega arith) (λ i ne. refl) (λ z. absurd (z kk)) (λ z. rw kh (c .arbiter .holderNotQueued))
       (c .arbiter) (c .asks) (c .column) (omega arith) (c .underWay .requests) (c .underWay .fit .1) (c .underWay .ordered .1)) inquiriesFit
       (record { failOwed = λ i x f z. l .failOwed i x (ik i x) f z .0; ascending = λ i. l .ascending i .1 })))
       (λ e. let d0 = eqb-false d 0 e in
       let ov = c .arbiter .handedOver d0 in
-      rw (ne-eqb n t.grant (λ z. omega arith), eq-eqb n (suc t.grant) (omega arith), ne-eqb (t.queued k) 0 (λ z. omega arith))
-      (grantedHead-kept p law _ known ms (back-home p law t k d 4 known ms (suc t.grant) (update t.queued k 0) (λ z. omega arith) (λ z. omega arith) (omega arith) (λ i ne. rw (ne-eqb i k ne)) (λ z. absurd (z kk)) (λ z. rw (eq-eqb k k refl))
+      let not-now : fromHolder t k n ≡ false = by-bool (fromHolder t k n) (λ u. let z = eqb-true n t.grant (and-split (eqb n t.grant) (eqb k t.holder) u .0) in absurd (omega arith)) (λ u. u) in
+      let early : isEarly t k n ≡ true = and-true (eqb n (suc t.grant)) (not (eqb (t.queued k) 0)) (eq-eqb n (suc t.grant) (omega arith)) (not-true (eqb (t.queued k) 0) (ne-eqb (t.queued k) 0 (λ z. omega arith))) in
+      rw (not-now, early)
+      (grantedHead-kept p law _ known ms (back-home p law t k d RELEASED known ms (suc t.grant) (update t.queued k 0) (λ z. omega arith) (λ z. omega arith) (omega arith) (λ i ne. rw (ne-eqb i k ne)) (λ z. absurd (z kk)) (λ z. rw (eq-eqb k k refl))
       (c .arbiter) (c .asks) (c .column) (omega arith) (c .underWay .requests) (c .underWay .fit .1) (c .underWay .ordered .1)) inquiriesFit
       (record { failOwed = λ i x f z. head-remove p law t.queued i k (l .failOwed i x (ik i x) f z .0) (λ y. let w = law .siteInRange i (c .asks .knownWaits i x .1) in omega arith) (ik i x); ascending = λ i. l .ascending i .1 })))
 

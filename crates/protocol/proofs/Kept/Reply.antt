@@ -12,8 +12,8 @@ use borrow.Author.Tests.{eqb-true, eqb-false, eq-eqb, ne-eqb}
 use Rattle.protocol.specs.Helpers.{update, tally}
 use Rattle.protocol.specs.Message.{Message, reply}
 use Rattle.protocol.specs.Setting.{Setting}
-use Rattle.protocol.specs.Local.{WAITING, Local, view, withEntries}
-use Rattle.protocol.specs.Site.{onReply}
+use Rattle.protocol.specs.Local.{WAITING, Local, view}
+use Rattle.protocol.specs.Site.{taken, onReply}
 use Rattle.protocol.proofs.Basics.{by-bool}
 use Rattle.protocol.proofs.Lists.{All}
 use Rattle.protocol.proofs.Invariant.{OUT, HELD, ghost, carriesPermission, Ordered, Ascending, InquiryFits, Fits, OwedIn, Core, Invariant}
@@ -26,7 +26,7 @@ module _ (p : Setting) where
   module _ (t : Local) (b d : ℕ) (known : ℕ → ℕ) (f n : ℕ) (ms : List Message) (c : Core p t (ghost b d OUT known) (reply f b n ∷ ms)) where
     -- the tables when b has taken the reply
     afterReply : Local
-    afterReply = withEntries t (update t.held b n) t.heir (update t.inquired b (cond (eqb (t.inquired b) n) n 0))
+    afterReply = taken t b n
 
     -- the permission is held
     reply-core : Core p afterReply (ghost b d HELD known) ms

@@ -13,8 +13,8 @@ use Rattle.protocol.specs.Helpers.{update, tally}
 use Rattle.protocol.specs.Message.{Message, request, inquire, fail, transfer}
 use Rattle.protocol.specs.Setting.{Setting, SettingLaw}
 use Rattle.protocol.specs.Local.{WAITING, Local, view, send, withArbiter}
-use Rattle.protocol.specs.Arbiter.{headOf, beforeHolder, granted, failFormer, inquireOrFail, answers, queuedUp, onRequest}
-use Rattle.protocol.proofs.Basics.{by-bool, clash, update-same, update-other, update-update}
+use Rattle.protocol.specs.Arbiter.{headOf, beforeHolder, granted, formerTold, failFormer, inquireOrFail, answers, queuedUp, onRequest}
+use Rattle.protocol.proofs.Basics.{by-bool, clash, and-true, not-true, update-same, update-other, update-update}
 use Rattle.protocol.proofs.Lists.{All, all-map, snoc-pos, snoc-keep, snoc-zero, snoc-none, tally-mono}
 use Rattle.protocol.proofs.Invariant.{Ghost, FREE, OUT, HELD, YIELDED, RELEASED, ghost, carriesPermission, isRequestOf, isReturnOf, isHandOver, isFailTo, isInquire, Ordered, Ascending, situation, InquiryFits, Fits, Owed, OwedIn, UnderWayIn, Core, Invariant}
 use Rattle.protocol.proofs.Sending.{send-fail, send-inquire, send-transfer}
@@ -114,14 +114,14 @@ module _ (p : Setting) (law : SettingLaw p) where
       let busy = c .arbiter .whenTaken s0 in
       let mk = queued-member p law t o ms c k qk in
       let ek = eq-eqb (headOf p t.queued) k hk in
-      by-bool (not (eqb old 0) && (not (eqb old k) && beforeHolder p t old))
+      by-bool (formerTold p t k old)
       (λ e. rw (ek, e) (rest _ mk busy (send-fail p ms old (queued-member p law t o ms c old (qo (λ z. let y : eqb old 0 ≡ true = eq-eqb old 0 z in clash true refl (sym (rw y at e))))) (c .underWay))
       (λ i a ne nk f z. snoc-none (isFailTo i) ms (fail old) (eq-eqb i old (sym (ow i a ne nk f (snoc-zero (isFailTo i) ms (fail old) z) .0))) z)
       (λ i. ascending-other i (t.inquired i) ms (fail old) refl (ascending i))))
       (λ e. rw (ek, e) (rest _ mk busy (c .underWay)
       (λ i a ne nk f z. let w = ow i a ne nk f z in let i1 = law .siteInRange i (c .asks .knownWaits i a .1) in let oi = w .0 in
-      clash (not (eqb old 0) && (not (eqb old k) && beforeHolder p t old))
-      (rw oi (rw (ne-eqb i 0 (λ y. omega arith), ne-eqb i k nk) (w .1))) e)
+      clash (formerTold p t k old)
+      (rw oi (and-true (not (eqb i 0)) (not (eqb i k) && beforeHolder p t i) (not-true (eqb i 0) (ne-eqb i 0 (λ y. omega arith))) (and-true (not (eqb i k)) (beforeHolder p t i) (not-true (eqb i k) (ne-eqb i k nk)) (w .1)))) e)
       ascending))
     where
       rest : (ms′ : List Message) → p .member k ≡ true → (p .member o.owner ≡ true) × (p .member t.holder ≡ true) × (1 ≤ t.holderSeq) × (1 ≤ t.grant) → UnderWayIn p t o ms′

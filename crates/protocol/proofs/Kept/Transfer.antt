@@ -11,7 +11,7 @@ use Rattle.protocol.specs.Helpers.{update, tally}
 use Rattle.protocol.specs.Message.{Message, transfer}
 use Rattle.protocol.specs.Setting.{Setting, SettingLaw}
 use Rattle.protocol.specs.Local.{Local, view}
-use Rattle.protocol.specs.Site.{onTransfer}
+use Rattle.protocol.specs.Site.{namesHeld, onTransfer}
 use Rattle.protocol.proofs.Basics.{by-bool}
 use Rattle.protocol.proofs.Lists.{All}
 use Rattle.protocol.proofs.Invariant.{Ordered, Ascending, Fits, OwedIn, UnderWayIn, Invariant}
@@ -26,7 +26,7 @@ module _ (p : Setting) (law : SettingLaw p) where
       let tail : UnderWayIn p t o ms = record { permissions = underWay .permissions; requests = underWay .requests; handOvers = underWay .handOvers; fit = underWay .fit .1; ordered = underWay .ordered .1 } in
       let ok = underWay .fit .0 in
       let owed : OwedIn p t o ms = record { failOwed = s .owed .failOwed; inquireOwed = s .owed .inquireOwed; ascending = λ k. s .owed .ascending k .1 } in
-      by-bool (eqb n (t.held b))
+      by-bool (namesHeld t b n)
       (λ e. let hn : n ≡ t.held b = eqb-true n (t.held b) e in
       let n0 : 1 ≤ n = ok .0 in
       let own = v .column .holds b (omega arith) in

@@ -3,6 +3,7 @@
 use Prim.Native.Nat.{ℕ}
 use mathlib.Core.Path.{_≡_, refl, sym}
 use mathlib.Core.Logic.{_≢_}
+use mathlib.Core.Bool.{true}
 use mathlib.Core.List.{List, _∷_}
 use native.Mathlib.Omega.{arith}
 use lib.Dec.{eqb}
@@ -11,8 +12,8 @@ use Rattle.protocol.specs.Helpers.{update, tally}
 use Rattle.protocol.specs.Message.{Message, yield}
 use Rattle.protocol.specs.Setting.{Setting, SettingLaw}
 use Rattle.protocol.specs.Local.{Local, view}
-use Rattle.protocol.specs.Arbiter.{headOf, onYield}
-use Rattle.protocol.proofs.Basics.{by-bool, clash}
+use Rattle.protocol.specs.Arbiter.{fromHolder, headOf, onYield}
+use Rattle.protocol.proofs.Basics.{by-bool, clash, and-true}
 use Rattle.protocol.proofs.Lists.{All}
 use Rattle.protocol.proofs.Invariant.{YIELDED, ghost, Ordered, Ascending, InquiryFits, Fits, OwedIn, Core, Invariant}
 use Rattle.protocol.proofs.Fitting.{fix}
@@ -31,8 +32,9 @@ module _ (p : Setting) (law : SettingLaw p) where
       let tk = c .underWay .permissions in
       let kk = c .asks .yieldedFailed refl .0 in
       let kh : k ≡ t.holder = c .arbiter .ownerIsHolder refl in
-      rw (eq-eqb n t.grant (omega arith), eq-eqb k t.holder kh)
-      (grantedHead-kept p law _ known ms (back-home p law t k 0 3 known ms t.grant (update t.queued k t.holderSeq) (λ z. omega arith) (λ z. omega arith) (omega arith) (λ i ne. rw (ne-eqb i k ne)) (λ z. rw (eq-eqb k k refl) (c .asks .ownerEntry kk .0 refl)) (λ z. absurd (kk z))
+      let now : fromHolder t k n ≡ true = and-true (eqb n t.grant) (eqb k t.holder) (eq-eqb n t.grant (omega arith)) (eq-eqb k t.holder kh) in
+      rw now
+      (grantedHead-kept p law _ known ms (back-home p law t k 0 YIELDED known ms t.grant (update t.queued k t.holderSeq) (λ z. omega arith) (λ z. omega arith) (omega arith) (λ i ne. rw (ne-eqb i k ne)) (λ z. rw (eq-eqb k k refl) (c .asks .ownerEntry kk .0 refl)) (λ z. absurd (kk z))
       (c .arbiter) (c .asks) (c .column) (omega arith) (c .underWay .requests) (c .underWay .fit .1) (c .underWay .ordered .1)) inquiriesFit
       (record {
         ascending = λ i. l .ascending i .1;
