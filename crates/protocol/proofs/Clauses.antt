@@ -10,7 +10,7 @@ use Rattle.protocol.specs.Helpers.{count, tally}
 use Rattle.protocol.specs.Message.{Message, request, reply, release, handOver, inquire, fail, yield, transfer, REPLY, RELEASE, HANDOVER, kind, isOut, isBack}
 use Rattle.protocol.specs.Setting.{Setting}
 use Rattle.protocol.specs.Local.{REST, WAITING, INSIDE, View}
-use Rattle.protocol.specs.Arbiter.{headOf}
+use Rattle.protocol.specs.Arbiter.{headOf, beforeHolder}
 use Rattle.protocol.proofs.Lists.{All}
 use Rattle.protocol.proofs.Invariant.{siteOf, numberOf, isFor, isForNumber, isRequestOf, isHandOver, isFailTo, isInquire, Ordered, Ascending}
 
@@ -91,10 +91,10 @@ module _ (p : Setting) where
         → (v.tables.queued k ≢ 0 → 0 < tally (isRelease k (suc v.tables.grant)) v.messages) × (v.tables.holder ≡ k → 0 < tally (isAnyRelease k v.tables.grant) v.messages)
     -- a queued site that has not been failed is the head and comes before the holder
     pub L1 : (k : ℕ) → v.tables.mode k ≡ WAITING → p .member k ≡ true → tally (isRequestOf k) v.messages ≡ 0 → v.tables.holder ≢ k → tally (isReplyTo k) v.messages ≡ 0 → v.tables.held k ≡ 0
-        → v.tables.failed k ≡ false → tally (isFailTo k) v.messages ≡ 0 → (headOf p v.tables.queued ≡ k) × (p .comesBefore (v.tables.queued k) k v.tables.holderSeq v.tables.holder ≡ true)
+        → v.tables.failed k ≡ false → tally (isFailTo k) v.messages ≡ 0 → (headOf p v.tables.queued ≡ k) × (beforeHolder p v.tables k ≡ true)
     -- a waiting holder that the head comes before is inquired
     pub L2 : v.tables.holder ≢ 0 → v.tables.mode v.tables.holder ≡ WAITING → (0 < tally (isReply v.tables.holder v.tables.grant) v.messages) ⊎ (v.tables.held v.tables.holder ≡ v.tables.grant)
-        → headOf p v.tables.queued ≢ 0 → p .comesBefore (v.tables.queued (headOf p v.tables.queued)) (headOf p v.tables.queued) v.tables.holderSeq v.tables.holder ≡ true → v.tables.inquired v.tables.holder ≢ v.tables.grant
+        → headOf p v.tables.queued ≢ 0 → beforeHolder p v.tables (headOf p v.tables.queued) ≡ true → v.tables.inquired v.tables.holder ≢ v.tables.grant
         → 0 < tally (isInquire v.tables.holder v.tables.grant) v.messages
     -- inquires arrive in order of number
     pub L3 : (k : ℕ) → Ascending k (v.tables.inquired k) v.messages

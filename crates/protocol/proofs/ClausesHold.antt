@@ -11,7 +11,7 @@ use Rattle.protocol.specs.Helpers.{count, tally}
 use Rattle.protocol.specs.Message.{Message, request, reply, release, handOver, inquire, fail, yield, transfer, REPLY, RELEASE, HANDOVER, kind, isOut, isBack}
 use Rattle.protocol.specs.Setting.{Setting, SettingLaw}
 use Rattle.protocol.specs.Local.{REST, WAITING, INSIDE, Local, View, view}
-use Rattle.protocol.specs.Arbiter.{headOf}
+use Rattle.protocol.specs.Arbiter.{headOf, beforeHolder}
 use Rattle.protocol.proofs.Basics.{by-bool, and-split, count-none, count-one}
 use Rattle.protocol.proofs.Lists.{all-map, all-some, all-none, tally-mono}
 use Rattle.protocol.proofs.Invariant.{Ghost, FREE, OUT, HELD, YIELDED, RELEASED, siteOf, numberOf, heirOf, carriesPermission, isRequestOf, isHandOver, isFailTo, isInquire, Situation, situation, Fits, Core, InvariantWith, Invariant}
@@ -323,7 +323,7 @@ module _ (p : Setting) (law : SettingLaw p) where
 
     -- L1
     owing : (k : ℕ) → t.mode k ≡ WAITING → p .member k ≡ true → tally (isRequestOf k) ms ≡ 0 → t.holder ≢ k → tally (isReplyTo k) ms ≡ 0 → t.held k ≡ 0
-        → t.failed k ≡ false → tally (isFailTo k) ms ≡ 0 → (headOf p t.queued ≡ k) × (p .comesBefore (t.queued k) k t.holderSeq t.holder ≡ true)
+        → t.failed k ≡ false → tally (isFailTo k) ms ≡ 0 → (headOf p t.queued ≡ k) × (beforeHolder p t k ≡ true)
     owing k m e z nh nr h0 f nf =
         let kk = asked-is k m e z in
         let not-owner : k ≢ o.owner = (λ k1.
@@ -343,7 +343,7 @@ module _ (p : Setting) (law : SettingLaw p) where
 
     -- L2
     inquiring : t.holder ≢ 0 → t.mode t.holder ≡ WAITING → (0 < tally (isReply t.holder t.grant) ms) ⊎ (t.held t.holder ≡ t.grant)
-        → headOf p t.queued ≢ 0 → p .comesBefore (t.queued (headOf p t.queued)) (headOf p t.queued) t.holderSeq t.holder ≡ true → t.inquired t.holder ≢ t.grant → 0 < tally (isInquire t.holder t.grant) ms
+        → headOf p t.queued ≢ 0 → beforeHolder p t (headOf p t.queued) ≡ true → t.inquired t.holder ≢ t.grant → 0 < tally (isInquire t.holder t.grant) ms
     inquiring h m d =
         let n0 : o.stage ≢ FREE = (λ z. h (zero-holder z)) in
         let g1 = c .arbiter .whenTaken n0 .3 in

@@ -11,8 +11,8 @@ use Rattle.protocol.specs.Helpers.{update, first, withoutFirst}
 use Rattle.protocol.specs.Message.{Message, request, reply, release, handOver, inquire, fail, yield, transfer}
 use Rattle.protocol.specs.Setting.{Setting}
 use Rattle.protocol.specs.Local.{REST, WAITING, INSIDE, Local, View, view, send, withArbiter, withEntries, withQueued}
-use Rattle.protocol.specs.Arbiter.{fromHolder, heldByHeir, headOf, beforeHolder, granted, grantedHead, formerTold, failFormer, inquireOrFail, answers, queuedUp, onRequest, earlyRelease, onRelease, heirTakesOver, onHandOver, onYield}
-use Rattle.protocol.specs.Site.{yielded, entered, onInquire, onFail, namesHeld, onTransfer, takes, onReply, handled}
+use Rattle.protocol.specs.Arbiter.{fromHolder, isEarly, heldByHeir, headOf, beforeHolder, granted, grantedHead, formerTold, failFormer, inquireOrFail, answers, queuedUp, onRequest, earlyRelease, onRelease, heirTakesOver, onHandOver, onYield}
+use Rattle.protocol.specs.Site.{yielded, entered, taken, mustYield, onInquire, onFail, namesHeld, onTransfer, takes, onReply, handled}
 use Rattle.protocol.specs.System.{System, settingOf}
 use Rattle.protocol.specs.Rig.{Row, Sent, Rig, rowOf, sentBy, inOrder, channel, Event, ask, leave, deliver, withoutEntries, localAt, rowsTaken, asked, left, allHeld, withEffect, delivered, takenOff, step, run, fresh}
 use Rattle.protocol.proofs.Basics.{by-bool}
@@ -137,9 +137,9 @@ module _ (p : Setting) where
   unfolding onRelease earlyRelease
   onRelease-bounded b t k n s =
       let g = s .grant in
-      by-bool (eqb n t.grant && eqb k t.holder)
+      by-bool (fromHolder t k n)
       (λ e. rw e (view-up (suc b) (suc (suc b)) _ (omega arith) (grantedHead-bounded b _ (record { grant = s .grant; holderSeq = omega arith; queued = s .queued; held = s .held; inquired = s .inquired }))))
-      (λ e. by-bool (eqb n (suc t.grant) && not (eqb (t.queued k) 0))
+      (λ e. by-bool (isEarly t k n)
       (λ f. rw (e, f) (grantedHead-bounded (suc b) _ (record { grant = omega arith; holderSeq = omega arith; queued = update-bounded t.queued k 0 (suc b) (omega arith) (λ i. let z = s .queued i in omega arith); held = λ i. let z = s .held i in omega arith; inquired = λ i. let z = s .inquired i in omega arith })))
       (λ f. rw (e, f) (nothing _ t (row-up b (suc (suc b)) (rowOf t) (omega arith) s))))
 
@@ -162,24 +162,24 @@ module _ (p : Setting) where
 
   onYield-bounded : (b : ℕ) (t : Local) (k n : ℕ) → LocalBelow b t → ViewBelow (suc b) (onYield p (view t []) k n)
   unfolding onYield
-  onYield-bounded b t k n s = by-bool (eqb n t.grant && eqb k t.holder)
+  onYield-bounded b t k n s = by-bool (fromHolder t k n)
       (λ e. rw e (grantedHead-bounded b _ (record { grant = s .grant; holderSeq = omega arith; queued = update-bounded t.queued k t.holderSeq b (s .holderSeq) (s .queued); held = s .held; inquired = s .inquired })))
       (λ e. rw e (nothing (suc b) t (row-up b (suc b) (rowOf t) (omega arith) s)))
 
   onReply-bounded : (b : ℕ) (t : Local) (k n : ℕ) (ent : Bool) → n ≤ b → LocalBelow b t → ViewBelow b (onReply p (view t []) k n ent)
   unfolding onReply
   onReply-bounded b t k n ent l s =
-      let u : LocalBelow b (withEntries t (update t.held k n) t.heir (update t.inquired k (cond (eqb (t.inquired k) n) n 0))) = record {
+      let u : LocalBelow b (taken t k n) = record {
         grant = s .grant;
         holderSeq = s .holderSeq;
         queued = s .queued;
         held = update-bounded t.held k n b l (s .held);
         inquired = update-bounded t.inquired k _ b (by-bool (eqb (t.inquired k) n) (λ e. rw e l) (λ e. rw e (omega arith))) (s .inquired);
       } in
-      by-bool (eqb (t.mode k) WAITING && (p .member k && eqb (t.held k) 0))
+      by-bool (takes p t k)
       (λ e. by-bool ent
       (λ f. rw (e, f) (entered-bounded b _ k u))
-      (λ f. by-bool (t.failed k && not (eqb (update t.inquired k (cond (eqb (t.inquired k) n) n 0) k) 0))
+      (λ f. by-bool (mustYield (taken t k n) k)
       (λ g. rw (e, f, g) (yielded-bounded b _ k u))
       (λ g. rw (e, f, g) (nothing b _ u))))
       (λ e. rw e (nothing b t s))

@@ -11,8 +11,8 @@ use Rattle.protocol.specs.Helpers.{update}
 use Rattle.protocol.specs.Message.{Message, request, reply, release, handOver, inquire, fail, yield, transfer}
 use Rattle.protocol.specs.Setting.{Setting}
 use Rattle.protocol.specs.Local.{WAITING, Local, View, view, withArbiter, withQueued}
-use Rattle.protocol.specs.Arbiter.{fromHolder, headOf, beforeHolder, granted, grantedHead, formerTold, failFormer, inquireOrFail, answers, queuedUp, onRequest, earlyRelease, onRelease, heirTakesOver, onHandOver, onYield}
-use Rattle.protocol.specs.Site.{yielded, entered, onInquire, onFail, namesHeld, onTransfer, onReply, handled}
+use Rattle.protocol.specs.Arbiter.{fromHolder, isEarly, headOf, beforeHolder, granted, grantedHead, formerTold, failFormer, inquireOrFail, answers, queuedUp, onRequest, earlyRelease, onRelease, heirTakesOver, onHandOver, onYield}
+use Rattle.protocol.specs.Site.{yielded, entered, taken, mustYield, onInquire, onFail, namesHeld, onTransfer, takes, onReply, handled}
 use Rattle.protocol.specs.Rig.{localOf, rowOf, sitesOf}
 use Rattle.protocol.proofs.Basics.{by-bool, and-split, update-marked}
 
@@ -50,9 +50,9 @@ module _ (p : Setting) where
 
   onRelease-row : (t : Local) (k n : ℕ) (ms : List Message) → OneRow (λ v. onRelease p v k n) t ms
   unfolding onRelease earlyRelease
-  onRelease-row t k n ms = by-bool (eqb n t.grant && eqb k t.holder)
+  onRelease-row t k n ms = by-bool (fromHolder t k n)
       (λ e. rw e (grantedHead-row (withArbiter t t.grant 0 0 t.queued) ms))
-      (λ e. by-bool (eqb n (suc t.grant) && not (eqb (t.queued k) 0))
+      (λ e. by-bool (isEarly t k n)
       (λ f. rw (e, f) (grantedHead-row (withArbiter t (suc t.grant) 0 0 (update t.queued k 0)) ms))
       (λ f. rw (e, f) (rw append-nil, λ i h. h)))
 
@@ -74,7 +74,7 @@ module _ (p : Setting) where
 
   onYield-row : (t : Local) (k n : ℕ) (ms : List Message) → OneRow (λ v. onYield p v k n) t ms
   unfolding onYield
-  onYield-row t k n ms = by-bool (eqb n t.grant && eqb k t.holder)
+  onYield-row t k n ms = by-bool (fromHolder t k n)
       (λ e. rw e (grantedHead-row (withArbiter t t.grant 0 0 (update t.queued k t.holderSeq)) ms))
       (λ e. rw e (rw append-nil, λ i h. h))
 
@@ -114,24 +114,24 @@ module _ (p : Setting) where
 
   -- a reply
   pub onReply-row : (t : Local) (b n : ℕ) (ent : Bool) (ms : List Message)
-      → onReply p (view t ms) b n ent ≡ view (localOf (cond ((eqb (t.mode b) WAITING && (p .member b && eqb (t.held b) 0)) && ent)
+      → onReply p (view t ms) b n ent ≡ view (localOf (cond (takes p t b && ent)
       (record { mode = update t.mode b 2; seq = update t.seq b 0; failed = update t.failed b false }) (sitesOf t)) (rowOf ((onReply p (view t []) b n ent) .tables))) (ms ++ (onReply p (view t []) b n ent) .messages)
   unfolding onReply yielded entered
-  onReply-row t b n ent ms = by-bool (eqb (t.mode b) WAITING && (p .member b && eqb (t.held b) 0))
+  onReply-row t b n ent ms = by-bool (takes p t b)
       (λ e. by-bool ent
       (λ f. rw (e, f) (rw append-nil))
-      (λ f. by-bool (t.failed b && not (eqb (update t.inquired b (cond (eqb (t.inquired b) n) n 0) b) 0))
-      (λ g. rw (e, f, g) (rw (update-marked t.failed b (and-split (t.failed b) (not (eqb (update t.inquired b (cond (eqb (t.inquired b) n) n 0) b) 0)) g .0))))
+      (λ f. by-bool (mustYield (taken t b n) b)
+      (λ g. rw (e, f, g) (rw (update-marked t.failed b (and-split (t.failed b) (not (eqb ((taken t b n) .inquired b) 0)) g .0))))
       (λ g. rw (e, f, g) (rw append-nil))))
       (λ e. rw e (rw append-nil))
 
   -- a reply changes what b holds, and nobody else
   pub reply-held : (t : Local) (b n : ℕ) (ent : Bool) (k : ℕ) → k ≢ b → t.held k ≡ 0 → (onReply p (view t []) b n ent) .tables .held k ≡ 0
   unfolding onReply yielded entered update
-  reply-held t b n ent k ne h = by-bool (eqb (t.mode b) WAITING && (p .member b && eqb (t.held b) 0))
+  reply-held t b n ent k ne h = by-bool (takes p t b)
       (λ e. by-bool ent
       (λ f. rw (e, f, ne-eqb k b ne) h)
-      (λ f. by-bool (t.failed b && not (eqb (cond (eqb b b) (cond (eqb (t.inquired b) n) n 0) (t.inquired b)) 0))
+      (λ f. by-bool (mustYield (taken t b n) b)
       (λ g. rw (e, f, g, ne-eqb k b ne) h)
       (λ g. rw (e, f, g, ne-eqb k b ne) h)))
       (λ e. rw e h)

@@ -24,6 +24,10 @@ entered v b =
 abbrev pub taken : Local → ℕ → ℕ → Local
 taken t b n = withEntries t (update t.held b n) t.heir (update t.inquired b (cond (eqb (t.inquired b) n) n 0))
 
+-- "if failed and an inquire for j is remembered"
+abbrev pub mustYield : Local → ℕ → Bool
+mustYield t b = t.failed b && not (eqb (t.inquired b) 0)
+
 -- "remembers it", in place of any older one
 abbrev pub remembered : Local → ℕ → ℕ → Local
 remembered t b n = withEntries t t.held t.heir (update t.inquired b n)
@@ -72,7 +76,7 @@ module _ (p : Setting) where
       let u = taken v.tables b n in
       cond (takes v.tables b)
       (cond allHeld (entered (view u v.messages) b)
-      (cond (u.failed b && not (eqb (u.inquired b) 0)) (yielded (view u v.messages) b)
+      (cond (mustYield u b) (yielded (view u v.messages) b)
       (view u v.messages)))
       v
 

@@ -13,19 +13,19 @@ use Rattle.protocol.specs.Helpers.{update, tally}
 use Rattle.protocol.specs.Message.{Message, fail}
 use Rattle.protocol.specs.Setting.{Setting}
 use Rattle.protocol.specs.Local.{WAITING, Local, view, withSites}
-use Rattle.protocol.specs.Arbiter.{headOf}
+use Rattle.protocol.specs.Arbiter.{headOf, beforeHolder}
 use Rattle.protocol.specs.Site.{onFail}
 use Rattle.protocol.specs.Rig.{asked}
 use Rattle.protocol.proofs.Basics.{by-bool, clash}
 use Rattle.protocol.proofs.Lists.{All}
-use Rattle.protocol.proofs.Invariant.{Ghost, FREE, isInquire, Ordered, Ascending, InquiryFits, Core, Invariant}
+use Rattle.protocol.proofs.Invariant.{Ghost, FREE, HELD, isInquire, Ordered, Ascending, InquiryFits, Core, Invariant}
 use Rattle.protocol.proofs.Kept.Yielded.{OwedBut, yielded-kept, yielder}
 
 module _ (p : Setting) where
   -- the fail may have been the last thing owed to b
   pub onFail-core : (t : Local) (o : Ghost) (b : ℕ) (ms : List Message) → Core p t o ms → ((k : ℕ) → InquiryFits t k) → (o.stage ≡ FREE → (k : ℕ) → t.queued k ≡ 0)
       → OwedBut p t o ms b
-      → (o.ahead ≡ 0 → o.stage ≢ FREE → o.stage ≤ 2 → o.known o.owner ≢ 0 → headOf p t.queued ≢ 0 → p .comesBefore (t.queued (headOf p t.queued)) (headOf p t.queued) t.holderSeq t.holder ≡ true → t.inquired o.owner ≢ t.grant → 0 < tally (isInquire o.owner t.grant) ms)
+      → (o.ahead ≡ 0 → o.stage ≢ FREE → o.stage ≤ HELD → o.known o.owner ≢ 0 → headOf p t.queued ≢ 0 → beforeHolder p t (headOf p t.queued) ≡ true → t.inquired o.owner ≢ t.grant → 0 < tally (isInquire o.owner t.grant) ms)
       → ((k : ℕ) → Ascending k (t.inquired k) ms) → Invariant p (onFail (view t ms) b)
   unfolding onFail update
   onFail-core t o b ms c inquiriesFit freeQueueEmpty ow asked ascending =

@@ -107,7 +107,7 @@ module _ (p : Setting) (law : SettingLaw p) where
 
   -- with a holder: only messages that carry nothing go out. All but k were told-owed or will be, or the former head is told-owed now.
   answers-kept : (t : Local) (o : Ghost) (k old : ℕ) (ms : List Message) → Core p t o ms → ((i : ℕ) → InquiryFits t i) → o.stage ≢ FREE → t.queued k ≢ 0 → (old ≢ 0 → t.queued old ≢ 0)
-      → headOf p t.queued ≡ k → ((i : ℕ) → o.known i ≢ 0 → i ≢ o.owner → i ≢ k → t.failed i ≡ false → tally (isFailTo i) ms ≡ 0 → (old ≡ i) × (p .comesBefore (t.queued i) i t.holderSeq t.holder ≡ true)) → ((i : ℕ) → Ascending i (t.inquired i) ms)
+      → headOf p t.queued ≡ k → ((i : ℕ) → o.known i ≢ 0 → i ≢ o.owner → i ≢ k → t.failed i ≡ false → tally (isFailTo i) ms ≡ 0 → (old ≡ i) × (beforeHolder p t i ≡ true)) → ((i : ℕ) → Ascending i (t.inquired i) ms)
       → Invariant p (answers p (view t ms) k old)
   unfolding answers failFormer inquireOrFail
   answers-kept t o k old ms c inquiriesFit s0 qk qo hk ow ascending =
@@ -126,13 +126,13 @@ module _ (p : Setting) (law : SettingLaw p) where
     where
       rest : (ms′ : List Message) → p .member k ≡ true → (p .member o.owner ≡ true) × (p .member t.holder ≡ true) × (1 ≤ t.holderSeq) × (1 ≤ t.grant) → UnderWayIn p t o ms′
           → ((i : ℕ) → o.known i ≢ 0 → i ≢ o.owner → i ≢ k → t.failed i ≡ false → tally (isFailTo i) ms′ ≡ 0 → ⊥) → ((i : ℕ) → Ascending i (t.inquired i) ms′)
-          → Invariant p (cond (p .comesBefore (t.queued k) k t.holderSeq t.holder) (send (send (view t ms′) (transfer t.holder k t.grant)) (inquire t.holder t.grant)) (send (send (view t ms′) (transfer t.holder k t.grant)) (fail k)))
+          → Invariant p (cond (beforeHolder p t k) (send (send (view t ms′) (transfer t.holder k t.grant)) (inquire t.holder t.grant)) (send (send (view t ms′) (transfer t.holder k t.grant)) (fail k)))
       rest ms′ mk busy m none-owed asc′ =
           let m1 = send-transfer p ms′ t.holder k t.grant (busy .3) (omega arith) refl qk (busy .1) mk m in
           let tr = transfer t.holder k t.grant in
           let ms1 = ms′ ++ tr ∷ [] in
           let a1 : (i : ℕ) → Ascending i (t.inquired i) ms1 = λ i. ascending-other i (t.inquired i) ms′ tr refl (asc′ i) in
-          by-bool (p .comesBefore (t.queued k) k t.holderSeq t.holder)
+          by-bool (beforeHolder p t k)
           (λ e. rw e (
             o,
             record {
@@ -157,7 +157,7 @@ module _ (p : Setting) (law : SettingLaw p) where
                 failOwed = λ i a ne f z. by-bool (eqb i k)
                     (λ y. snoc-none (isFailTo i) ms1 (fail k) y z)
                     (λ y. absurd (none-owed i a ne (eqb-false i k y) f (snoc-zero (isFailTo i) ms′ tr (snoc-zero (isFailTo i) ms1 (fail k) z))));
-                inquireOwed = λ a b d y hd z. clash (p .comesBefore (t.queued k) k t.holderSeq t.holder) (rw hk at z) e;
+                inquireOwed = λ a b d y hd z. clash (beforeHolder p t k) (rw hk at z) e;
                 ascending = λ i. ascending-other i (t.inquired i) ms1 (fail k) refl (a1 i);
               };
               core = record { arbiter = c .arbiter; asks = c .asks; column = c .column; underWay = send-fail p _ k mk m1 };
@@ -231,7 +231,7 @@ module _ (p : Setting) (law : SettingLaw p) where
       (λ g. rw e (answers-kept _ (ghost o.owner o.ahead o.stage (update o.known k 1)) k (headOf p t.queued) ms v (s .inquiriesFit) s0 (λ z. omega arith)
       (λ z. old-at t k n (headOf p t.queued) (f .4) ((head-of p law t.queued (p .size)) .found z .2))
       (eqb-true (headOf p q1) k g)
-      (λ i a ne nk fi z. let w = s .owed .failOwed i (rw (update-other o.known k 1 i nk) at a) ne fi z in (w .0, rw (update-other t.queued k n i nk) (w .1)))
+      (λ i a ne nk fi z. let w = s .owed .failOwed i (rw (update-other o.known k 1 i nk) at a) ne fi z in (w .0, rw (beforeHolder, update-other t.queued k n i nk) (w .1)))
       ascending))
       (λ g. rw (e, g) (
         ghost o.owner o.ahead o.stage (update o.known k 1),
