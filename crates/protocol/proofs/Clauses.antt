@@ -103,3 +103,15 @@ module _ (p : Setting) where
     pub queuedMember : (k : ℕ) → v.tables.queued k ≢ 0 → p .member k ≡ true
     pub waitingNumbered : (k : ℕ) → v.tables.mode k ≡ WAITING → 1 ≤ v.tables.seq k
     pub notWaitingClear : (k : ℕ) → v.tables.mode k ≢ WAITING → (v.tables.seq k ≡ 0) × (v.tables.failed k ≡ false)
+
+  -- every message is from or to a site that has the arbiter in its set
+  pub fits-member : (v : View) (m : Message) → FitsTables v m → p .member (siteOf m) ≡ true
+  unfolding FitsTables
+  fits-member v (request k n) f = f .3
+  fits-member v (reply u k n) f = f .3
+  fits-member v (release k n) f = f .2
+  fits-member v (handOver k x n) f = f .2
+  fits-member v (inquire k n) f = f .2
+  fits-member v (fail k) f = f
+  fits-member v (yield k n) f = f .6
+  fits-member v (transfer k x n) f = f .3

@@ -306,7 +306,7 @@ module _ (y : System) where
   takenOff-bounded b r a c none e h = rig-up b _ r (omega arith) h
   takenOff-bounded b r a c (some x) e h = let m = all-without (channel a c) (SentBelow b) r.underWay x e (h .underWay) in delivered-bounded b r (withoutFirst (channel a c) r.underWay) x.arbiter x.message h (m .1) (m .0)
 
-  step-bounded : (b : ℕ) (r : Rig) (e : Event) → RigBelow b r → RigBelow (suc (suc b)) (step y r e)
+  pub step-bounded : (b : ℕ) (r : Rig) (e : Event) → RigBelow b r → RigBelow (suc (suc b)) (step y r e)
   unfolding step
   step-bounded b r (ask s) h = by-bool ((leb 1 s && leb s y.size) && eqb (r.sites.mode s) REST)
       (λ e. rw e (rig-up (suc b) _ _ (omega arith) (asked-bounded b r s h))) (λ e. rw e (rig-up b _ r (omega arith) h))

@@ -1,9 +1,9 @@
 -- Every event keeps the rig's invariant. An ask, a leave, a fail and an entry change what several arbiters see; every other message
 -- changes what its own arbiter sees, and the others' part and messages stay as they are.
 use Prim.Native.Nat.{ℕ, suc, _≤_, max}
-use mathlib.Core.Path.{_≡_, refl, sym}
+use mathlib.Core.Path.{_≡_, refl, sym, _∙_}
 use mathlib.Core.Logic.{_≢_}
-use mathlib.Core.Bool.{Bool, true, false, not, _&&_}
+use mathlib.Core.Bool.{Bool, true, false, not, _&&_, cond}
 use mathlib.Core.List.{List, [], _∷_, append-assoc, append-nil}
 use mathlib.Core.Option.{Option, none, some}
 use native.Mathlib.Omega.{arith}
@@ -12,10 +12,10 @@ use borrow.Author.Tests.{eqb-true, eqb-false, eq-eqb, ne-eqb, leb-true}
 use Rattle.protocol.specs.Helpers.{update, first, withoutFirst}
 use Rattle.protocol.specs.Message.{Message, request, reply, release, handOver, inquire, fail, yield, transfer, between}
 use Rattle.protocol.specs.Local.{REST, WAITING, INSIDE, Local, view}
-use Rattle.protocol.specs.Site.{entered, onFail, takes, onReply, handled}
+use Rattle.protocol.specs.Site.{yielded, entered, onFail, takes, onReply, handled}
 use Rattle.protocol.specs.System.{System, Lawful, settingOf}
-use Rattle.protocol.specs.Rig.{Sent, Rig, messagesOf, sent, sentBy, inOrder, channel, Event, ask, leave, deliver, localAt, rowsTaken, requests, asked, handOns, left, allHeld, effect, withEffect, failSeen, delivered, takenOff, step, run, fresh}
-use Rattle.protocol.proofs.Basics.{by-bool, clash, and-split, all-at, all-false}
+use Rattle.protocol.specs.Rig.{Row, Sent, Rig, messagesOf, sent, sentBy, inOrder, channel, Event, ask, leave, deliver, localAt, rowsTaken, withoutInquired, requests, asked, handOns, left, allHeld, effect, withEffect, failSeen, delivered, takenOff, step, run, fresh}
+use Rattle.protocol.proofs.Basics.{by-bool, clash, and-split, and-true, all-at, all-false}
 use Rattle.protocol.proofs.Invariant.{Invariant}
 use Rattle.protocol.proofs.Seen.{askSeen, leaveSeen, viewOf, law-of}
 use Rattle.protocol.proofs.Kept.Fail.{failSeen-kept}
@@ -26,7 +26,7 @@ use Rattle.protocol.proofs.EveryMessage.{freshView, pull-invariant, han
 use Rattle.protocol.proofs.Clauses.{FitsTables}
 use Rattle.protocol.proofs.OneRow.{onFail-row, onReply-row, reply-held, Simple, handled-row}
 use Rattle.protocol.proofs.RigMessages.{messages-append, messages-sentBy, messages-other, first-messages, without-messages, without-other, messages-all}
-use Rattle.protocol.proofs.RigInvariant.{RigInvariant, first-fits, held-range, stranger}
+use Rattle.protocol.proofs.RigInvariant.{RigInvariant, first-fits, arbiter-range, held-range, stranger}
 
 module _ (y : System) (lw : Lawful y) where
   -- an ask: every arbiter sees it
@@ -41,6 +41,7 @@ module _ (y : System) (lw : Lawful y) where
     inRange = λ k. by-bool (eqb k s) (λ e. rw e (λ h. rw (eqb-true k s e) (a, b))) (λ e. rw e (w .inRange k));
     modeRange = λ k. by-bool (eqb k s) (λ e. rw e (omega arith)) (λ e. rw e (w .modeRange k));
     clockInRange = λ k. by-bool (eqb k s) (λ e. rw e (λ h. rw (eqb-true k s e) (a, b))) (λ e. rw e (w .clockInRange k));
+    grantInRange = w .grantInRange;
     lacksOne = λ k. by-bool (eqb k s)
         (λ e. rw e (λ h. let (j, u) = lw .nonEmpty s a b in (j, rw (eqb-true k s e) u, refl)))
         (λ e. rw e (λ h. w .lacksOne k h));
@@ -62,6 +63,7 @@ module _ (y : System) (lw : Lawful y) where
     inRange = λ k. by-bool (eqb k s) (λ e. rw e (λ h. absurd (h refl))) (λ e. rw e (w .inRange k));
     modeRange = λ k. by-bool (eqb k s) (λ e. rw e (omega arith)) (λ e. rw e (w .modeRange k));
     clockInRange = w .clockInRange;
+    grantInRange = w .grantInRange;
     lacksOne = λ k. by-bool (eqb k s) (λ e. rw e (λ h. absurd (omega arith))) (λ e. rw e (λ h. w .lacksOne k h));
   }
 
@@ -89,6 +91,7 @@ module _ (y : System) (lw : Lawful y) where
         inRange = w .inRange;
         modeRange = w .modeRange;
         clockInRange = cl;
+        grantInRange = λ i. by-bool (eqb i j) (λ e. rw e (λ h. rw (eqb-true i j e) (arbiter-range y lw r a b x f w))) (λ e. rw e (w .grantInRange i));
         lacksOne = λ k m. let (j0, s, h) = w .lacksOne k m in (
           j0,
           s,
@@ -102,6 +105,11 @@ module _ (y : System) (lw : Lawful y) where
   onFail-silent : (t : Local) (b : ℕ) → t.held b ≡ 0 → (onFail (view t []) b) .messages ≡ []
   unfolding onFail
   onFail-silent t b h = by-bool (eqb (t.mode b) WAITING) (λ e. rw (e, eq-eqb (t.held b) 0 h)) (λ e. rw e)
+
+  -- a fail changes no grant number
+  onFail-grant : (t : Local) (b : ℕ) → (onFail (view t []) b) .tables .grant ≡ t.grant
+  unfolding onFail yielded
+  onFail-grant t b = by-bool (eqb (t.mode b) WAITING) (λ e. by-bool (not (eqb (t.held b) 0) && not (eqb (t.inquired b) 0)) (λ f. rw (e, f)) (λ f. rw (e, f))) (λ e. rw e)
 
   -- a fail, at its own arbiter
   home-fail : (r : Rig) (a b j k : ℕ) → first (channel a b) r.underWay ≡ some (sent j (fail k)) → RigInvariant y r
@@ -124,6 +132,7 @@ module _ (y : System) (lw : Lawful y) where
         inRange = w .inRange;
         modeRange = w .modeRange;
         clockInRange = w .clockInRange;
+        grantInRange = λ i h. w .grantInRange i (λ z. h (onFail-grant (localAt r i) k ∙ z));
         lacksOne = λ i m. let (j0, s, h) = w .lacksOne i m in (j0, s, onFail-row (settingOf y j0) (localAt r j0) k [] .1 i h);
       }
     where
@@ -168,11 +177,6 @@ module _ (y : System) (lw : Lawful y) where
       let s = g .1 in
       entered-kept (settingOf y i) (localAt r i) (g .0) b (messagesOf i r.underWay) m (λ e. all-held r j b n i fu e ne) (s .core) (λ k x. s .inquiriesFit k) (s .freeQueueEmpty) (s .owed)
 
-  -- a reply that is not taken gives nobody the permission
-  not-taken : (r : Rig) (j k n : ℕ) (ent : Bool) (i : ℕ) → takes (settingOf y j) (localAt r j) k ≡ false → (r.rows j) .held i ≡ 0 → (onReply (settingOf y j) (view (localAt r j) []) k n ent) .tables .held i ≡ 0
-  unfolding onReply
-  not-taken r j k n ent i tk h = rw tk h
-
   -- a reply: where the site enters, every arbiter sees it
   reply-kept : (r : Rig) (a b j u k n : ℕ) → first (channel a b) r.underWay ≡ some (sent j (reply u k n)) → RigInvariant y r → RigInvariant y (delivered y r (withoutFirst (channel a b) r.underWay) j (reply u k n))
   unfolding delivered handled update entered FitsTables
@@ -183,16 +187,20 @@ module _ (y : System) (lw : Lawful y) where
       let t = localAt r j in
       let new = (onReply (settingOf y j) (view t []) k n ent) .messages in
       let tidy = onReply-row (settingOf y j) t k n ent (messagesOf j rest) in
-      by-bool (takes (settingOf y j) (localAt r j) k && allHeld y (rowsTaken r j k n) k)
-      (λ go. let g2 = and-split (takes (settingOf y j) (localAt r j) k) (allHeld y (rowsTaken r j k n) k) go in
-      let m1 = eqb-true (r.sites.mode k) WAITING (and-split (eqb (r.sites.mode k) WAITING) (y.sets k j && eqb ((r.rows j) .held k) 0) (g2 .0) .0) in
+      let fit = first-fits y lw r a b j (reply u k n) f w in
+      let tk : takes (settingOf y j) t k ≡ true = and-true (eqb (t.mode k) WAITING) (y.sets k j && eqb (t.held k) 0) (eq-eqb (t.mode k) WAITING (fit .1)) (and-true (y.sets k j) (eqb (t.held k) 0) (fit .3) (eq-eqb (t.held k) 0 (fit .6))) in
+      let grants : (row : Row) (rows : ℕ → Row) → ((i : ℕ) → (rows i) .grant ≡ (r.rows i) .grant) → (i : ℕ) → (cond (eqb i j) row (rows i)) .grant ≢ 0 → (1 ≤ i) × (i ≤ y.size) =
+      λ row rows h i. by-bool (eqb i j) (λ e. rw e (λ z. rw (eqb-true i j e) (arbiter-range y lw r a b x f w))) (λ e. rw e (λ z. w .grantInRange i (λ v. z (h i ∙ v)))) in
+      by-bool (allHeld y (rowsTaken r j k n) k)
+      (λ fu. let go : takes (settingOf y j) t k && allHeld y (rowsTaken r j k n) k ≡ true = and-true (takes (settingOf y j) t k) (allHeld y (rowsTaken r j k n) k) tk fu in
       rw go (record {
         arbiters = λ i. rw (messages-append i rest (sentBy j new)) (by-bool (eqb i j)
             (λ e. let ij = eqb-true i j e in rw e (rw (ij, messages-sentBy j new) (rw (tidy, go) at (home-reply r a b j u k n ent f w))))
-            (λ e. let ne = eqb-false i j e in rw (e, messages-other i j new ne, append-nil, without-other a b i r.underWay x f ne) (entered-other r j k n i (g2 .0) (g2 .1) ne w)));
-        inRange = λ i. by-bool (eqb i k) (λ e. rw e (λ h. rw (eqb-true i k e) (w .inRange k (λ z. omega arith)))) (λ e. rw e (w .inRange i));
+            (λ e. let ne = eqb-false i j e in rw (e, messages-other i j new ne, append-nil, without-other a b i r.underWay x f ne) (entered-other r j k n i tk fu ne w)));
+        inRange = λ i. by-bool (eqb i k) (λ e. rw e (λ h. rw (eqb-true i k e) (w .inRange k (λ z. let m = fit .1 in omega arith)))) (λ e. rw e (w .inRange i));
         modeRange = λ i. by-bool (eqb i k) (λ e. rw e (omega arith)) (λ e. rw e (w .modeRange i));
         clockInRange = w .clockInRange;
+        grantInRange = grants _ (λ i. withoutInquired (r.rows i) k) (λ i. refl);
         lacksOne = λ i. by-bool (eqb i k) (λ e. rw e (λ m. absurd (omega arith)))
             (λ e. rw e (λ m. let (j0, s, h) = w .lacksOne i m in (
               j0,
@@ -202,23 +210,18 @@ module _ (y : System) (lw : Lawful y) where
                   (λ v. rw v h),
             )));
       }))
-      (λ go. rw go (record {
+      (λ fu. let go : takes (settingOf y j) t k && allHeld y (rowsTaken r j k n) k ≡ false = rw tk fu in
+      rw go (record {
         arbiters = λ i. rw (messages-append i rest (sentBy j new)) (by-bool (eqb i j)
             (λ e. let ij = eqb-true i j e in rw e (rw (ij, messages-sentBy j new) (rw (tidy, go) at (home-reply r a b j u k n ent f w))))
             (λ e. let ne = eqb-false i j e in rw (e, messages-other i j new ne, append-nil, without-other a b i r.underWay x f ne) (w .arbiters i)));
         inRange = w .inRange;
         modeRange = w .modeRange;
         clockInRange = w .clockInRange;
+        grantInRange = grants _ r.rows (λ i. refl);
         lacksOne = λ i m. by-bool (eqb i k)
-            (λ e. let ik = eqb-true i k e in by-bool (takes (settingOf y j) (localAt r j) k)
-            (λ tk. let (j0, s, ne, h) = not-all-held r j k n (first-fits y lw r a b j (reply u k n) f w .2) (rw tk at go) in (j0, rw ik s, rw (ne-eqb j0 j ne, ik) h))
-            (λ tk. let (j0, s, h) = w .lacksOne i m in (
-              j0,
-              s,
-              by-bool (eqb j0 j)
-                  (λ v. rw v (not-taken r j k n ent i tk (rw (← (eqb-true j0 j v)) h)))
-                  (λ v. rw v h),
-            )))
+            (λ e. let ik = eqb-true i k e in
+            let (j0, s, ne, h) = not-all-held r j k n (fit .2) fu in (j0, rw ik s, rw (ne-eqb j0 j ne, ik) h))
             (λ e. let (j0, s, h) = w .lacksOne i m in (
               j0,
               s,
@@ -250,7 +253,7 @@ module _ (y : System) (lw : Lawful y) where
       off r a b j m e w = delivered-kept r a b j m e w
 
   -- any event; a refused one changes nothing
-  step-kept : (r : Rig) (e : Event) → RigInvariant y r → RigInvariant y (step y r e)
+  pub step-kept : (r : Rig) (e : Event) → RigInvariant y r → RigInvariant y (step y r e)
   unfolding step
   step-kept r (ask s) w = by-bool ((leb 1 s && leb s y.size) && eqb (r.sites.mode s) REST)
       (λ e. let z = and-split (leb 1 s && leb s y.size) (eqb (r.sites.mode s) REST) e in
@@ -269,7 +272,7 @@ module _ (y : System) (lw : Lawful y) where
   -- the fresh state
   pub fresh-kept : RigInvariant y fresh
   unfolding fresh messagesOf freshView
-  fresh-kept = record { arbiters = λ j. fresh-invariant (settingOf y j) (law-of y lw j); inRange = λ k h. absurd (h refl); modeRange = λ k. omega arith; clockInRange = λ k h. absurd (h refl); lacksOne = λ k h. absurd (omega arith) }
+  fresh-kept = record { arbiters = λ j. fresh-invariant (settingOf y j) (law-of y lw j); inRange = λ k h. absurd (h refl); modeRange = λ k. omega arith; clockInRange = λ k h. absurd (h refl); grantInRange = λ k h. absurd (h refl); lacksOne = λ k h. absurd (omega arith) }
 
   -- every reached state
   pub reached : (es : List Event) → RigInvariant y (run y es fresh)

@@ -12,6 +12,7 @@ use Rattle.protocol.specs.Helpers.{first, withoutFirst}
 use Rattle.protocol.specs.Message.{Message, between}
 use Rattle.protocol.specs.Rig.{Sent, messagesOf, sentBy, inOrder, channel}
 use Rattle.protocol.proofs.Basics.{by-bool}
+use Rattle.protocol.proofs.Lists.{All}
 
 -- a longer list
 pub messages-append : (j : ℕ) (xs ys : List Sent) → messagesOf j (xs ++ ys) ≡ messagesOf j xs ++ messagesOf j ys
@@ -78,6 +79,13 @@ messages-all j n f h = by-bool (ltb 0 j)
     (λ b. let y = ltb-false j (suc n) b in let no : (1 ≤ j) → j ≤ n → ⊥ = (λ u v. omega arith) in messages-none j n f no ∙ sym (h no)))
     (λ a. let y = ltb-false 0 j a in let no : (1 ≤ j) → j ≤ n → ⊥ = (λ u v. omega arith) in messages-none j n f no ∙ sym (h no))
 
+-- what holds of every message of every arbiter holds of every message of the rig
+pub all-messages : (P : ℕ → Message → Type 0) (xs : List Sent) → ((j : ℕ) → All (P j) (messagesOf j xs)) → All (λ x. P x.arbiter x.message) xs
+unfolding messagesOf All
+all-messages P [] h = tt
+all-messages P (x ∷ xs) h = ((rw (eq-eqb x.arbiter x.arbiter refl) at (h x.arbiter)) .0, all-messages P xs (λ j. by-bool (eqb j x.arbiter) (λ e. (rw e at (h j)) .1) (λ e. rw e at (h j))))
+
+-- no message
 pub messages-nil : (j : ℕ) → messagesOf j [] ≡ []
 unfolding messagesOf
 messages-nil j = refl
