@@ -74,8 +74,8 @@ module _ (p : Setting) where
     -- who holds is the holder with the grant number, or the heir of a hand-over not heard of, with the next number
     pub T2 : (k : ℕ) → v.tables.held k ≢ 0 → (((k ≡ v.tables.holder) × (v.tables.held k ≡ v.tables.grant) × (v.tables.mode k ≡ WAITING → v.tables.holderSeq ≡ v.tables.seq k))
         ⊎ ((v.tables.held k ≡ suc v.tables.grant) × (v.tables.queued k ≢ 0) × (v.tables.mode k ≡ WAITING → v.tables.queued k ≡ v.tables.seq k) × HandOverTo v k)) × (p .member k ≡ true)
-    -- an heir stands at the holder, which holds the grant number, and is queued
-    pub T7 : (k : ℕ) → v.tables.heir k ≢ 0 → (k ≡ v.tables.holder) × (v.tables.held k ≡ v.tables.grant) × (v.tables.queued (v.tables.heir k) ≢ 0)
+    -- an heir stands at the holder, which holds the grant number, and is queued; both have the arbiter in their set
+    pub T7 : (k : ℕ) → v.tables.heir k ≢ 0 → (k ≡ v.tables.holder) × (v.tables.held k ≡ v.tables.grant) × (v.tables.queued (v.tables.heir k) ≢ 0) × (p .member k ≡ true) × (p .member (v.tables.heir k) ≡ true)
     -- a remembered number is no later than the grant number; only a waiting member remembers one
     pub T8 : (k : ℕ) → v.tables.inquired k ≢ 0 → (v.tables.inquired k ≤ v.tables.grant) × (p .member k ≡ true) × (v.tables.mode k ≡ WAITING)
     -- at most one request of a site

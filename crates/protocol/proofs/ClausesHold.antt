@@ -239,12 +239,12 @@ module _ (p : Setting) (law : SettingLaw p) where
         )
 
     -- T7
-    inherits : (k : ℕ) → t.heir k ≢ 0 → (k ≡ t.holder) × (t.held k ≡ t.grant) × (t.queued (t.heir k) ≢ 0)
+    inherits : (k : ℕ) → t.heir k ≢ 0 → (k ≡ t.holder) × (t.held k ≡ t.grant) × (t.queued (t.heir k) ≢ 0) × (p .member k ≡ true) × (p .member (t.heir k) ≡ true)
     inherits k h =
         let y = c .column .heirs k h in
         let nu : t.held k ≡ t.grant + o.ahead = rw (y .0) (c .column .number (y .1)) in
         let d0 = y .2 in
-        (y .0 ∙ c .arbiter .ownerIsHolder (y .2), omega arith, y .3)
+        (y .0 ∙ c .arbiter .ownerIsHolder (y .2), omega arith, y .3, rw (y .0) (c .arbiter .whenTaken (λ z. let w = y .1 in omega arith) .0), queued-member p law t o ms c (t.heir k) (y .3))
 
     -- R1
     one-request : (k : ℕ) → tally (isRequestOf k) ms ≤ 1
