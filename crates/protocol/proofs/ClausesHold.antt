@@ -95,9 +95,9 @@ module _ (p : Setting) (law : SettingLaw p) where
     ahead-one z = let y = c .arbiter .aheadByOne in omega arith
 
     -- a hand-over that the arbiter has not heard of is under way
-    overdue : o.ahead ≢ 0 → HandOverTo p v o.owner
+    handOver-underWay : o.ahead ≢ 0 → HandOverTo p v o.owner
     unfolding v
-    overdue z = (λ y. let w = c .arbiter .handedOver z .1 in omega arith, c .underWay .handOvers z)
+    handOver-underWay z = (λ y. let w = c .arbiter .handedOver z .1 in omega arith, c .underWay .handOvers z)
 
     -- no holder while the permission is free, and only then
     holder-zero : t.holder ≡ 0 → o.stage ≡ FREE
@@ -107,13 +107,13 @@ module _ (p : Setting) (law : SettingLaw p) where
     zero-holder z = let f = c .arbiter .whenFree z in sym (c .arbiter .ownerIsHolder (f .1)) ∙ f .0
 
     -- at stage OUT the reply is under way, at stage RELEASED the release
-    flying : o.stage ≡ OUT → 0 < tally (isReply o.owner (t.grant + o.ahead)) ms
-    flying z =
+    reply-underWay : o.stage ≡ OUT → 0 < tally (isReply o.owner (t.grant + o.ahead)) ms
+    reply-underWay z =
         let tk : tally carriesPermission ms ≡ 1 = rw z at (c .underWay .permissions) in
         let le = tally-mono _ carriesPermission (isReply o.owner (t.grant + o.ahead)) ms (c .underWay .fit) (λ m a e. permission-replied p (situation t o.owner o.ahead o.stage) m a z e) in omega arith
 
-    released-back : o.stage ≡ RELEASED → 0 < tally (isRelease o.owner (t.grant + o.ahead)) ms
-    released-back z =
+    release-underWay : o.stage ≡ RELEASED → 0 < tally (isRelease o.owner (t.grant + o.ahead)) ms
+    release-underWay z =
         let tk : tally carriesPermission ms ≡ 1 = rw z at (c .underWay .permissions) in
         let le = tally-mono _ carriesPermission (isRelease o.owner (t.grant + o.ahead)) ms (c .underWay .fit) (λ m a e. permission-released p (situation t o.owner o.ahead o.stage) m a z e) in omega arith
 
@@ -123,11 +123,11 @@ module _ (p : Setting) (law : SettingLaw p) where
         let gd : t.grant + o.ahead ≡ suc t.grant = omega arith in
         let le = c .arbiter .stageRange in
         by-bool (eqb o.stage FREE) (λ e. let y = c .arbiter .whenFree (eqb-true o.stage FREE e) .1 in absurd (omega arith))
-        (λ e0. by-bool (eqb o.stage OUT) (λ e. inl (rw gd at (flying (eqb-true o.stage OUT e))))
+        (λ e0. by-bool (eqb o.stage OUT) (λ e. inl (rw gd at (reply-underWay (eqb-true o.stage OUT e))))
         (λ e1. by-bool (eqb o.stage HELD) (λ e. inr (inl (c .column .number (eqb-true o.stage HELD e) ∙ gd)))
         (λ e2. by-bool (eqb o.stage YIELDED) (λ e. let y = c .asks .yieldedFailed (eqb-true o.stage YIELDED e) .2 in absurd (omega arith))
         (λ e3. let a0 = eqb-false o.stage FREE e0 in let a1 = eqb-false o.stage OUT e1 in let a2 = eqb-false o.stage HELD e2 in let a3 = eqb-false o.stage YIELDED e3 in
-        inr (inr (rw gd at (released-back (omega arith))))))))
+        inr (inr (rw gd at (release-underWay (omega arith))))))))
 
     -- R1, T1, T3 to T6, T8: each message
     fits : (m : Message) → Fits p (situation t o.owner o.ahead o.stage) m → FitsTables p v m
@@ -143,7 +143,7 @@ module _ (p : Setting) (law : SettingLaw p) where
         rw (a .0) (
           by-bool (eqb o.ahead 0)
               (λ e. let d0 = eqb-true o.ahead 0 e in inl (c .arbiter .ownerIsHolder d0, omega arith, en .0 d0))
-              (λ e. let d0 = eqb-false o.ahead 0 e in let d1 = ahead-one d0 in inr (omega arith, en .1 d0, overdue d0)),
+              (λ e. let d0 = eqb-false o.ahead 0 e in let d1 = ahead-one d0 in inr (omega arith, en .1 d0, handOver-underWay d0)),
           w .0,
           omega arith,
           w .1,
@@ -158,7 +158,7 @@ module _ (p : Setting) (law : SettingLaw p) where
         rw (a .0) (
           by-bool (eqb o.ahead 0)
               (λ e. let d0 = eqb-true o.ahead 0 e in inl (c .arbiter .ownerIsHolder d0, omega arith))
-              (λ e. let d0 = eqb-false o.ahead 0 e in let d1 = ahead-one d0 in let q1 = c .arbiter .handedOver d0 .0 in inr (omega arith, (λ z. omega arith), overdue d0)),
+              (λ e. let d0 = eqb-false o.ahead 0 e in let d1 = ahead-one d0 in let q1 = c .arbiter .handedOver d0 .0 in inr (omega arith, (λ z. omega arith), handOver-underWay d0)),
           omega arith,
           busy .0,
         )
@@ -234,7 +234,7 @@ module _ (p : Setting) (law : SettingLaw p) where
         rw (y .0) (
           by-bool (eqb o.ahead 0)
               (λ e. let d0 = eqb-true o.ahead 0 e in inl (c .arbiter .ownerIsHolder d0, omega arith, λ m. c .asks .ownerEntry (kk m) .0 d0))
-              (λ e. let d0 = eqb-false o.ahead 0 e in let d1 = ahead-one d0 in let q1 = c .arbiter .handedOver d0 .0 in inr (omega arith, (λ z. omega arith), (λ m. c .asks .ownerEntry (kk m) .1 d0), overdue d0)),
+              (λ e. let d0 = eqb-false o.ahead 0 e in let d1 = ahead-one d0 in let q1 = c .arbiter .handedOver d0 .0 in inr (omega arith, (λ z. omega arith), (λ m. c .asks .ownerEntry (kk m) .1 d0), handOver-underWay d0)),
           busy .0,
         )
 
@@ -255,8 +255,8 @@ module _ (p : Setting) (law : SettingLaw p) where
         (λ e. let w = no-request p (situation t o.owner o.ahead o.stage) k ms (inl (eqb-false (t.mode k) WAITING e)) (c .underWay .fit) in omega arith)
 
     -- a waiting member without request under way is known
-    asked-is : (k : ℕ) → t.mode k ≡ WAITING → p .member k ≡ true → tally (isRequestOf k) ms ≡ 0 → o.known k ≢ 0
-    asked-is k m e z y = let w = c .underWay .requests k m e in omega arith
+    asked-known : (k : ℕ) → t.mode k ≡ WAITING → p .member k ≡ true → tally (isRequestOf k) ms ≡ 0 → o.known k ≢ 0
+    asked-known k m e z y = let w = c .underWay .requests k m e in omega arith
 
     -- a known site other than the owner is not the holder
     holder-not : (k : ℕ) → o.known k ≢ 0 → k ≢ o.owner → t.holder ≢ k
@@ -266,7 +266,7 @@ module _ (p : Setting) (law : SettingLaw p) where
     asked-at : (k : ℕ) → t.mode k ≡ WAITING → p .member k ≡ true → tally (isRequestOf k) ms ≡ 0
         → ((t.holder ≡ k) × (t.holderSeq ≡ t.seq k) × (t.queued k ≡ 0) × (tally (isAnyRelease k t.grant) ms ≡ 0)) ⊎ ((t.holder ≢ k) × (t.queued k ≡ t.seq k) × (tally (isRelease k (suc t.grant)) ms ≡ 0))
     asked-at k m e z =
-        let kk = asked-is k m e z in
+        let kk = asked-known k m e z in
         by-bool (eqb k o.owner)
         (λ ko. let k1 = eqb-true k o.owner ko in
         let kw : o.known o.owner ≢ 0 = rw k1 at kk in
@@ -293,8 +293,8 @@ module _ (p : Setting) (law : SettingLaw p) where
         ))
 
     -- R4
-    unasked : (k : ℕ) → p .member k ≡ true → o.known k ≡ 0 → t.mode k ≢ INSIDE → (t.queued k ≢ 0 → 0 < tally (isRelease k (suc t.grant)) ms) × (t.holder ≡ k → 0 < tally (isAnyRelease k t.grant) ms)
-    unasked k e kz m =
+    not-asked : (k : ℕ) → p .member k ≡ true → o.known k ≡ 0 → t.mode k ≢ INSIDE → (t.queued k ≢ 0 → 0 < tally (isRelease k (suc t.grant)) ms) × (t.holder ≡ k → 0 < tally (isAnyRelease k t.grant) ms)
+    not-asked k e kz m =
         by-bool (eqb k o.owner)
         (λ ko. let k1 = eqb-true k o.owner ko in
         let kw : o.known o.owner ≡ 0 = rw k1 at kz in
@@ -305,7 +305,7 @@ module _ (p : Setting) (law : SettingLaw p) where
         let n2 : o.stage ≢ HELD = (λ y. m (rw k1 (c .asks .heldInside y kw))) in
         let n3 : o.stage ≢ YIELDED = (λ y. c .asks .yieldedFailed y .0 kw) in
         let s4 : o.stage ≡ RELEASED = omega arith in
-        let re = released-back s4 in
+        let re = release-underWay s4 in
         rw k1 (by-bool (eqb o.ahead 0)
         (λ d. let d0 = eqb-true o.ahead 0 d in let gd : t.grant + o.ahead ≡ t.grant = omega arith in (
           (λ y. absurd (y (ap t.queued (c .arbiter .ownerIsHolder d0) ∙ c .arbiter .holderNotQueued))),
@@ -325,7 +325,7 @@ module _ (p : Setting) (law : SettingLaw p) where
     owing : (k : ℕ) → t.mode k ≡ WAITING → p .member k ≡ true → tally (isRequestOf k) ms ≡ 0 → t.holder ≢ k → tally (isReplyTo k) ms ≡ 0 → t.held k ≡ 0
         → t.failed k ≡ false → tally (isFailTo k) ms ≡ 0 → (headOf p t.queued ≡ k) × (beforeHolder p t k ≡ true)
     owing k m e z nh nr h0 f nf =
-        let kk = asked-is k m e z in
+        let kk = asked-known k m e z in
         let not-owner : k ≢ o.owner = (λ k1.
         let kw : o.known o.owner ≢ 0 = rw k1 at kk in
         let k0 = law .siteInRange k e .0 in
@@ -333,7 +333,7 @@ module _ (p : Setting) (law : SettingLaw p) where
         let ho : t.held o.owner ≡ 0 = rw k1 at h0 in
         let n0 : o.stage ≢ FREE = (λ y. let w = c .arbiter .whenFree y .0 in omega arith) in
         let g1 = c .arbiter .whenTaken n0 .3 in
-        let n1 : o.stage ≢ OUT = (λ y. let w = flying y in let nr1 : tally (isReplyTo o.owner) ms ≡ 0 = rw k1 at nr in
+        let n1 : o.stage ≢ OUT = (λ y. let w = reply-underWay y in let nr1 : tally (isReplyTo o.owner) ms ≡ 0 = rw k1 at nr in
         let le = tally-mono _ (isReply o.owner (t.grant + o.ahead)) (isReplyTo o.owner) ms (c .underWay .fit) (λ m a e. reply-any o.owner (t.grant + o.ahead) m e) in omega arith) in
         let n2 : o.stage ≢ HELD = (λ y. let w = c .column .number y in omega arith) in
         let n3 : o.stage ≢ YIELDED = (λ y. nh (sym (k1 ∙ c .arbiter .ownerIsHolder (c .asks .yieldedFailed y .2)))) in
@@ -378,7 +378,7 @@ module _ (p : Setting) (law : SettingLaw p) where
         R1 = one-request t o ms s;
         R2 = c .underWay .ordered;
         R3 = asked-at t o ms s;
-        R4 = λ k e d. unasked t o ms s k e
+        R4 = λ k e d. not-asked t o ms s k e
             (elim d [ inl m ↦ unknown t o ms s k (λ z. omega arith) | inr m ↦ let w = c .underWay .requests k (m .0) e in let y = m .1 in omega arith ])
             (elim d [ inl m ↦ (λ z. omega arith) | inr m ↦ (λ z. let y = m .0 in omega arith) ]);
         L1 = owing t o ms s;

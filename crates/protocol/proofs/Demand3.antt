@@ -13,7 +13,7 @@ use Rattle.protocol.specs.Rig.{Rig, messagesOf, Event, localAt, run, fre
 use Rattle.protocol.specs.Claim.{Sound, Claim}
 use Rattle.protocol.proofs.Basics.{by-bool}
 use Rattle.protocol.proofs.Clauses.{Clauses}
-use Rattle.protocol.proofs.NotStuck.{nobody}
+use Rattle.protocol.proofs.NotStuck.{nobody-waits}
 use Rattle.protocol.proofs.RigMessages.{messages-nil}
 use Rattle.protocol.proofs.RigInvariant.{RigInvariant, clauses-at}
 use Rattle.protocol.proofs.RigKept.{reached}
@@ -36,7 +36,7 @@ module _ (y : System) (lw : Lawful y) where
         let c = (w .arbiters j) .1 .core in
         c .asks .insideHolds k a s .0 ∙ sym (c .asks .insideHolds l b t .0);
     onePlace = λ j. clauses-at y lw r w j .A3;
-    notStuck = λ e out. nobody y lw r.sites r.rows (λ j. quiet r w e j)
+    notStuck = λ e out. nobody-waits y lw r.sites r.rows (λ j. quiet r w e j)
         (λ k. two-modes (r.sites.mode k) (w .modeRange k) (out k))
         (λ k m. w .inRange k (λ z. omega arith) .1) (w .lacksOne);
   }

@@ -12,8 +12,8 @@ use Rattle.protocol.specs.Local.{Local, View, view}
 use Rattle.protocol.specs.Site.{handled}
 use Rattle.protocol.proofs.Lists.{All, tally-without}
 use Rattle.protocol.proofs.Invariant.{FREE, ghost, isFailTo, isInquire, Ordered, Ascending, Invariant}
-use Rattle.protocol.proofs.Sending.{pull}
-use Rattle.protocol.proofs.Owing.{ascending-pull}
+use Rattle.protocol.proofs.Sending.{first-underWay}
+use Rattle.protocol.proofs.Owing.{ascending-first}
 use Rattle.protocol.proofs.Kept.Fail.{onFail-kept}
 use Rattle.protocol.proofs.Kept.Inquire.{onInquire-kept}
 use Rattle.protocol.proofs.Kept.Transfer.{onTransfer-kept}
@@ -29,8 +29,8 @@ freshView = view (record { grant = 0; holder = 0; holderSeq = 0; queued = λ k. 
 
 module _ (p : Setting) (law : SettingLaw p) where
   -- the message that is taken next may stand first
-  pub pull-invariant : (t : Local) (ms : List Message) (a b : ℕ) (m : Message) → first (between (p .arbiter) a b) ms ≡ some m → Invariant p (view t ms) → Invariant p (view t (m ∷ withoutFirst (between (p .arbiter) a b) ms))
-  pull-invariant t ms a b m e (o, s) =
+  pub first-invariant : (t : Local) (ms : List Message) (a b : ℕ) (m : Message) → first (between (p .arbiter) a b) ms ≡ some m → Invariant p (view t ms) → Invariant p (view t (m ∷ withoutFirst (between (p .arbiter) a b) ms))
+  first-invariant t ms a b m e (o, s) =
       let c = s .core in
       let l = s .owed in
       let ch = between (p .arbiter) a b in (
@@ -38,11 +38,11 @@ module _ (p : Setting) (law : SettingLaw p) where
         record {
           inquiriesFit = s .inquiriesFit;
           freeQueueEmpty = s .freeQueueEmpty;
-          core = record { arbiter = c .arbiter; asks = c .asks; column = c .column; underWay = pull p ms a b m e (c .underWay) };
+          core = record { arbiter = c .arbiter; asks = c .asks; column = c .column; underWay = first-underWay p ms a b m e (c .underWay) };
           owed = record {
             failOwed = λ k. rw (tally-without ch (isFailTo k) ms m e) (l .failOwed k);
             inquireOwed = rw (tally-without ch (isInquire o.owner t.grant) ms m e) (l .inquireOwed);
-            ascending = λ k. ascending-pull (p .arbiter) a b k (t.inquired k) ms m e (l .ascending k);
+            ascending = λ k. ascending-first (p .arbiter) a b k (t.inquired k) ms m e (l .ascending k);
           };
         },
       )

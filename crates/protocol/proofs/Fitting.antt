@@ -13,7 +13,7 @@ use Rattle.protocol.specs.Setting.{Setting}
 use Rattle.protocol.specs.Local.{WAITING, Local}
 use Rattle.protocol.proofs.Basics.{by-bool, clash, and-split}
 use Rattle.protocol.proofs.Lists.{All, all-map-not, all-none}
-use Rattle.protocol.proofs.Invariant.{Ghost, OUT, YIELDED, RELEASED, ghost, siteOf, numberOf, heirOf, isForNumber, carriesPermission, isRequestOf, isReturnOf, isHandOver, isInquireTo, Situation, situation, Fits, Core}
+use Rattle.protocol.proofs.Invariant.{Ghost, FREE, OUT, YIELDED, RELEASED, ghost, siteOf, numberOf, heirOf, isForNumber, carriesPermission, isRequestOf, isReturnOf, isHandOver, isInquireTo, Situation, situation, Fits, ArbiterRow, Core}
 
 -- the stage of the permission that a message carries
 abbrev pub stageBy : ℕ → ℕ
@@ -138,3 +138,15 @@ module _ (p : Setting) where
       → All (Fits p (record { grant = s.grant; holder = s.holder; queued = s.queued; mode = mode; seq = seq; owner = s.owner; ahead = s.ahead; stage = s.stage })) ms
   all-mode s mode seq b ms f c a = all-map-not _ _ (isRequestOf b) ms c
       (λ m e h. fits-change _ _ m (λ k r. f k (λ z. clash (isRequestOf b m) (rw z at r) e)) (λ z. (refl, refl, refl)) (omega arith) (λ k x z v. v) (λ k x z v w. w v) h) a
+
+  -- the arbiter's row does not tell the stages apart at which the permission is not free
+  pub row-stage : {g holder holderSeq : ℕ} {q : ℕ → ℕ} {o d st : ℕ} (st′ : ℕ) → st ≢ FREE → st′ ≢ FREE → st′ ≤ RELEASED → ArbiterRow p g holder holderSeq q o d st → ArbiterRow p g holder holderSeq q o d st′
+  row-stage st′ a b l r = record {
+    aheadByOne = r .aheadByOne;
+    ownerIsHolder = r .ownerIsHolder;
+    handedOver = r .handedOver;
+    whenFree = λ z. absurd (b z);
+    whenTaken = λ z. r .whenTaken a;
+    stageRange = l;
+    holderNotQueued = r .holderNotQueued;
+  }

@@ -48,11 +48,11 @@ module _ (p : Setting) (law : SettingLaw p) (t : Local) (v : Clauses p (view t [
       ]
 
   -- a waiting site that lacks the permission, and is not failed or comes first, waits for one that comes later and is not failed
-  pub chase : (k : ℕ) → t.mode k ≡ WAITING → p .member k ≡ true → t.held k ≡ 0
+  pub waits-for-later : (k : ℕ) → t.mode k ≡ WAITING → p .member k ≡ true → t.held k ≡ 0
       → (t.failed k ≡ false) ⊎ ((i : ℕ) → t.mode i ≡ WAITING → i ≢ k → p .comesBefore (t.seq k) k (t.seq i) i ≡ true)
       → (h : ℕ) × (t.mode h ≡ WAITING) × (t.failed h ≡ false) × (p .comesBefore (t.seq k) k (t.seq h) h ≡ true)
   unfolding tally
-  chase k m e h0 d =
+  waits-for-later k m e h0 d =
       let k1 = law .siteInRange k e in
       let sk = v .waitingNumbered k m in
       elim (v .R3 k m e refl) [
@@ -118,7 +118,7 @@ module _ (y : System) (lw : Lawful y) (s : Sites) (rows : ℕ → Row)
   -- from a waiting site to a later one, which is not failed
   next : (k : ℕ) → s.mode k ≡ WAITING → (s.failed k ≡ false) ⊎ ((i : ℕ) → s.mode i ≡ WAITING → i ≢ k → y.comesBefore (s.seq k) k (s.seq i) i ≡ true)
       → (h : ℕ) × (s.mode h ≡ WAITING) × (s.failed h ≡ false) × (y.comesBefore (s.seq k) k (s.seq h) h ≡ true)
-  next k m d = let (j, e, h) = lacksOne k m in chase (settingOf y j) (law-of y lw j) (localOf s (rows j)) (inv j) out k m e h d
+  next k m d = let (j, e, h) = lacksOne k m in waits-for-later (settingOf y j) (law-of y lw j) (localOf s (rows j)) (inv j) out k m e h d
 
   -- so none that is not failed is the last
   no-last : Least later late-irrefl late-trans free (suc y.size) → ⊥
@@ -130,9 +130,9 @@ module _ (y : System) (lw : Lawful y) (s : Sites) (rows : ℕ → Row)
       clash (y.comesBefore (s.seq l.at) l.at (s.seq h) h) b (l.first h (omega arith) (rw (eq-eqb (s.mode h) WAITING m, f)))
 
   -- nobody is stuck: with nothing under way and nobody inside, nobody waits
-  pub nobody : (k : ℕ) → s.mode k ≢ WAITING
+  pub nobody-waits : (k : ℕ) → s.mode k ≢ WAITING
   unfolding sooner later waits free
-  nobody k m = ⊎-elim
+  nobody-waits k m = ⊎-elim
       (λ l. let lm = eqb-true (s.mode l.at) WAITING l.marked in
       let (h, mh, f, b) = next l.at lm (inr (λ i mi ne. let z = inRange i mi in lw .total (s.seq i) i (s.seq l.at) l.at ne (l.first i (omega arith) (eq-eqb (s.mode i) WAITING mi)))) in
       let z = inRange h mh in

@@ -85,9 +85,9 @@ module _ (p : Setting) where
       (λ e. rw e (rw append-nil, λ i h. h))
 
   -- to clear an entry gives nobody the permission
-  less : (t : Local) (b k : ℕ) → t.held k ≡ 0 → update t.held b 0 k ≡ 0
+  cleared-held : (t : Local) (b k : ℕ) → t.held k ≡ 0 → update t.held b 0 k ≡ 0
   unfolding update
-  less t b k h = by-bool (eqb k b) (λ e. rw e) (λ e. rw e h)
+  cleared-held t b k h = by-bool (eqb k b) (λ e. rw e) (λ e. rw e h)
 
   onInquire-row : (t : Local) (b n : ℕ) (ms : List Message) → OneRow (λ v. onInquire v b n) t ms
   unfolding onInquire yielded
@@ -96,7 +96,7 @@ module _ (p : Setting) where
       (λ f. rw (e, f) (rw append-nil, λ i h. h))
       (λ f. by-bool (eqb n (t.held b))
       (λ g. by-bool (t.failed b)
-      (λ h. rw (e, f, g, h) (rw (update-marked t.failed b h), λ i z. less t b i z))
+      (λ h. rw (e, f, g, h) (rw (update-marked t.failed b h), λ i z. cleared-held t b i z))
       (λ h. rw (e, f, g, h) (rw append-nil, λ i h. h)))
       (λ g. rw (e, f, g) (rw append-nil, λ i h. h))))
       (λ e. rw e (rw append-nil, λ i h. h))
@@ -108,7 +108,7 @@ module _ (p : Setting) where
   unfolding onFail yielded
   onFail-row t b ms = by-bool (eqb (t.mode b) WAITING)
       (λ e. by-bool (not (eqb (t.held b) 0) && not (eqb (t.inquired b) 0))
-      (λ f. rw (e, f) (refl, λ i z. less t b i z))
+      (λ f. rw (e, f) (refl, λ i z. cleared-held t b i z))
       (λ f. rw (e, f) (rw append-nil, λ i h. h)))
       (λ e. rw e (rw append-nil, λ i h. h))
 

@@ -54,14 +54,14 @@ inquire-channel j a b k m e u =
     (eqb-true a _ (c .0) ∙ v .0, eqb-true b _ (c .1) ∙ v .1 ∙ sym (eqb-true k (siteOf m) (w .1)))
 
 -- the message that is taken off may stand first
-pub ascending-pull : (j a b k lo : ℕ) (ms : List Message) (m : Message) → first (between j a b) ms ≡ some m → Ascending k lo ms → Ascending k lo (m ∷ withoutFirst (between j a b) ms)
+pub ascending-first : (j a b k lo : ℕ) (ms : List Message) (m : Message) → first (between j a b) ms ≡ some m → Ascending k lo ms → Ascending k lo (m ∷ withoutFirst (between j a b) ms)
 unfolding Ascending first withoutFirst
-ascending-pull j a b k lo [] m e o = let z : _≡_ {A = ℕ} 0 1 = cc in absurd (omega arith)
-ascending-pull j a b k lo (y ∷ ms) m e o =
+ascending-first j a b k lo [] m e o = let z : _≡_ {A = ℕ} 0 1 = cc in absurd (omega arith)
+ascending-first j a b k lo (y ∷ ms) m e o =
     by-bool (between j a b y)
     (λ t. let w : y ≡ m = cc in rw (t, ← w) o)
     (λ t. let e′ = rw t at e in
-    let ih = ascending-pull j a b k (cond (isInquireTo k y) (numberOf y) lo) ms m e′ (o .1) in
+    let ih = ascending-first j a b k (cond (isInquireTo k y) (numberOf y) lo) ms m e′ (o .1) in
     rw t (by-bool (isInquireTo k m)
     (λ u. let c = inquire-channel j a b k m u (first-holds (between j a b) ms m e′) in
     let ny : isInquireTo k y ≡ false = by-bool (isInquireTo k y) (λ v. clash (between j a b y) (rw (c .0, c .1) (inquire-from j k y v)) t) (λ v. v) in

@@ -60,5 +60,5 @@ module _ (y : System) (lw : Lawful y) where
       let z = lw .memberInRange b i m in absurd (h (z .0) (z .1)))
 
   -- no set has a member outside 1 to N
-  pub stranger : (s j : ℕ) → ((1 ≤ j) → j ≤ y.size → ⊥) → y.sets s j ≡ false
-  stranger s j h = by-bool (y.sets s j) (λ e. let w = lw .memberInRange s j e in absurd (h (w .0) (w .1))) (λ e. e)
+  pub not-member : (s j : ℕ) → ((1 ≤ j) → j ≤ y.size → ⊥) → y.sets s j ≡ false
+  not-member s j h = by-bool (y.sets s j) (λ e. let w = lw .memberInRange s j e in absurd (h (w .0) (w .1))) (λ e. e)

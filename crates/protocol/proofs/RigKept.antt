@@ -22,11 +22,11 @@ use Rattle.protocol.proofs.Kept.Fail.{failSeen-kept}
 use Rattle.protocol.proofs.Kept.Entered.{entered-kept}
 use Rattle.protocol.proofs.Kept.Ask.{askSeen-kept}
 use Rattle.protocol.proofs.Kept.Leave.{leaveSeen-kept}
-use Rattle.protocol.proofs.EveryMessage.{freshView, pull-invariant, handled-kept, fresh-invariant}
+use Rattle.protocol.proofs.EveryMessage.{freshView, first-invariant, handled-kept, fresh-invariant}
 use Rattle.protocol.proofs.Clauses.{FitsTables}
 use Rattle.protocol.proofs.OneRow.{onFail-row, onReply-row, reply-held, Simple, handled-row}
 use Rattle.protocol.proofs.RigMessages.{messages-append, messages-sentBy, messages-other, first-messages, without-messages, without-other, messages-all}
-use Rattle.protocol.proofs.RigInvariant.{RigInvariant, first-fits, arbiter-range, held-range, stranger}
+use Rattle.protocol.proofs.RigInvariant.{RigInvariant, first-fits, arbiter-range, held-range, not-member}
 
 module _ (y : System) (lw : Lawful y) where
   -- an ask: every arbiter sees it
@@ -36,7 +36,7 @@ module _ (y : System) (lw : Lawful y) where
     arbiters = λ j.
         let f : ℕ → List Message = requests y s (suc (r.clock s)) in
         let kept = askSeen-kept (settingOf y j) (localAt r j) s (suc (r.clock s)) (messagesOf j r.underWay) m (omega arith) (w .arbiters j) in
-        rw (messages-append j r.underWay (inOrder f y.size), messages-all j y.size f (λ h. rw (stranger y lw s j h)))
+        rw (messages-append j r.underWay (inOrder f y.size), messages-all j y.size f (λ h. rw (not-member y lw s j h)))
         (by-bool (y.sets s j) (λ e. rw e (rw e at kept)) (λ e. rw (e, append-nil) (rw e at kept)));
     inRange = λ k. by-bool (eqb k s) (λ e. rw e (λ h. rw (eqb-true k s e) (a, b))) (λ e. rw e (w .inRange k));
     modeRange = λ k. by-bool (eqb k s) (λ e. rw e (omega arith)) (λ e. rw e (w .modeRange k));
@@ -54,7 +54,7 @@ module _ (y : System) (lw : Lawful y) where
     arbiters = λ j.
         let f : ℕ → List Message = handOns y r s in
         let kept = leaveSeen-kept (settingOf y j) (law-of y lw j) (localAt r j) s (messagesOf j r.underWay) m (w .arbiters j) in
-        rw (messages-append j r.underWay (inOrder f y.size), messages-all j y.size f (λ h. rw (stranger y lw s j h)))
+        rw (messages-append j r.underWay (inOrder f y.size), messages-all j y.size f (λ h. rw (not-member y lw s j h)))
         (by-bool (y.sets s j && not (eqb ((r.rows j) .held s) 0))
         (λ e. by-bool (eqb ((r.rows j) .heir s) 0)
         (λ g. rw (e, g) (rw (e, g) at kept))
@@ -68,12 +68,12 @@ module _ (y : System) (lw : Lawful y) where
   }
 
   -- the message is j's; what the view of j becomes
-  at-home : (r : Rig) (a b : ℕ) (x : Sent) (e : Bool) → first (channel a b) r.underWay ≡ some x → RigInvariant y r
+  own-arbiter-kept : (r : Rig) (a b : ℕ) (x : Sent) (e : Bool) → first (channel a b) r.underWay ≡ some x → RigInvariant y r
       → Invariant (settingOf y x.arbiter) (handled (settingOf y x.arbiter) (view (localAt r x.arbiter) (messagesOf x.arbiter (withoutFirst (channel a b) r.underWay))) e x.message)
-  at-home r a b x e f w =
+  own-arbiter-kept r a b x e f w =
       rw (without-messages a b r.underWay x f)
       (handled-kept (settingOf y x.arbiter) (law-of y lw x.arbiter) (localAt r x.arbiter) (withoutFirst (between x.arbiter a b) (messagesOf x.arbiter r.underWay)) e x.message
-      (pull-invariant (settingOf y x.arbiter) (law-of y lw x.arbiter) (localAt r x.arbiter) (messagesOf x.arbiter r.underWay) a b x.message (first-messages a b r.underWay x f) (w .arbiters x.arbiter)))
+      (first-invariant (settingOf y x.arbiter) (law-of y lw x.arbiter) (localAt r x.arbiter) (messagesOf x.arbiter r.underWay) a b x.message (first-messages a b r.underWay x f) (w .arbiters x.arbiter)))
 
   -- a message that changes one row
   withEffect-kept : (r : Rig) (a b : ℕ) (x : Sent) (clock : ℕ → ℕ) → ((k : ℕ) → clock k ≢ 0 → (1 ≤ k) × (k ≤ y.size)) → Simple (settingOf y x.arbiter) x.message → first (channel a b) r.underWay ≡ some x → RigInvariant y r → RigInvariant y (withEffect y r (withoutFirst (channel a b) r.underWay) clock x.arbiter x.message)
@@ -86,7 +86,7 @@ module _ (y : System) (lw : Lawful y) where
       let tidy = handled-row (settingOf y j) t x.message (messagesOf j rest) u in
       record {
         arbiters = λ i. rw (messages-append i rest (sentBy j new)) (by-bool (eqb i j)
-            (λ e. let ij = eqb-true i j e in rw e (rw (ij, messages-sentBy j new) (rw (tidy .0) at (at-home r a b x false f w))))
+            (λ e. let ij = eqb-true i j e in rw e (rw (ij, messages-sentBy j new) (rw (tidy .0) at (own-arbiter-kept r a b x false f w))))
             (λ e. let ne = eqb-false i j e in rw (e, messages-other i j new ne, append-nil, without-other a b i r.underWay x f ne) (w .arbiters i)));
         inRange = w .inRange;
         modeRange = w .modeRange;
@@ -112,10 +112,10 @@ module _ (y : System) (lw : Lawful y) where
   onFail-grant t b = by-bool (eqb (t.mode b) WAITING) (λ e. by-bool (not (eqb (t.held b) 0) && not (eqb (t.inquired b) 0)) (λ f. rw (e, f)) (λ f. rw (e, f))) (λ e. rw e)
 
   -- a fail, at its own arbiter
-  home-fail : (r : Rig) (a b j k : ℕ) → first (channel a b) r.underWay ≡ some (sent j (fail k)) → RigInvariant y r
+  fail-own-arbiter : (r : Rig) (a b j k : ℕ) → first (channel a b) r.underWay ≡ some (sent j (fail k)) → RigInvariant y r
       → Invariant (settingOf y j) (onFail (view (localAt r j) (messagesOf j (withoutFirst (channel a b) r.underWay))) k)
   unfolding handled
-  home-fail r a b j k f w = at-home r a b (sent j (fail k)) false f w
+  fail-own-arbiter r a b j k f w = own-arbiter-kept r a b (sent j (fail k)) false f w
 
   -- a fail: every arbiter sees it
   fail-kept : (r : Rig) (a b j k : ℕ) → first (channel a b) r.underWay ≡ some (sent j (fail k)) → RigInvariant y r → RigInvariant y (delivered y r (withoutFirst (channel a b) r.underWay) j (fail k))
@@ -128,7 +128,7 @@ module _ (y : System) (lw : Lawful y) where
         arbiters = λ i.
             let t = localAt r i in
             rw (messages-append i rest (inOrder F y.size), messages-all i y.size F (λ h. onFail-silent t k (held-range y lw r i k w h)))
-            (rw (onFail-row (settingOf y i) t k (messagesOf i rest) .0) at (told-view r a b j k f w i));
+            (rw (onFail-row (settingOf y i) t k (messagesOf i rest) .0) at (fail-seen r a b j k f w i));
         inRange = w .inRange;
         modeRange = w .modeRange;
         clockInRange = w .clockInRange;
@@ -136,17 +136,17 @@ module _ (y : System) (lw : Lawful y) where
         lacksOne = λ i m. let (j0, s, h) = w .lacksOne i m in (j0, s, onFail-row (settingOf y j0) (localAt r j0) k [] .1 i h);
       }
     where
-      told-view : (r : Rig) (a b j k : ℕ) → first (channel a b) r.underWay ≡ some (sent j (fail k)) → RigInvariant y r → (i : ℕ)
+      fail-seen : (r : Rig) (a b j k : ℕ) → first (channel a b) r.underWay ≡ some (sent j (fail k)) → RigInvariant y r → (i : ℕ)
           → Invariant (settingOf y i) (onFail (view (localAt r i) (messagesOf i (withoutFirst (channel a b) r.underWay))) k)
-      told-view r a b j k f w i = by-bool (eqb i j)
-          (λ e. rw (eqb-true i j e) (home-fail r a b j k f w))
+      fail-seen r a b j k f w i = by-bool (eqb i j)
+          (λ e. rw (eqb-true i j e) (fail-own-arbiter r a b j k f w))
           (λ e. rw (without-other a b i r.underWay (sent j (fail k)) f (eqb-false i j e)) (failSeen-kept (settingOf y i) (localAt r i) k (messagesOf i r.underWay) (w .arbiters i)))
 
   -- a reply, at its own arbiter
-  home-reply : (r : Rig) (a b j u k n : ℕ) (e : Bool) → first (channel a b) r.underWay ≡ some (sent j (reply u k n)) → RigInvariant y r
+  reply-own-arbiter : (r : Rig) (a b j u k n : ℕ) (e : Bool) → first (channel a b) r.underWay ≡ some (sent j (reply u k n)) → RigInvariant y r
       → Invariant (settingOf y j) (onReply (settingOf y j) (view (localAt r j) (messagesOf j (withoutFirst (channel a b) r.underWay))) k n e)
   unfolding handled
-  home-reply r a b j u k n e f w = at-home r a b (sent j (reply u k n)) e f w
+  reply-own-arbiter r a b j u k n e f w = own-arbiter-kept r a b (sent j (reply u k n)) e f w
 
   -- all members are held, those of the other arbiters as before
   all-held : (r : Rig) (j b n i : ℕ) → allHeld y (rowsTaken r j b n) b ≡ true → y.sets b i ≡ true → i ≢ j → (r.rows i) .held b ≢ 0
@@ -195,7 +195,7 @@ module _ (y : System) (lw : Lawful y) where
       (λ fu. let go : takes (settingOf y j) t k && allHeld y (rowsTaken r j k n) k ≡ true = and-true (takes (settingOf y j) t k) (allHeld y (rowsTaken r j k n) k) tk fu in
       rw go (record {
         arbiters = λ i. rw (messages-append i rest (sentBy j new)) (by-bool (eqb i j)
-            (λ e. let ij = eqb-true i j e in rw e (rw (ij, messages-sentBy j new) (rw (tidy, go) at (home-reply r a b j u k n ent f w))))
+            (λ e. let ij = eqb-true i j e in rw e (rw (ij, messages-sentBy j new) (rw (tidy, go) at (reply-own-arbiter r a b j u k n ent f w))))
             (λ e. let ne = eqb-false i j e in rw (e, messages-other i j new ne, append-nil, without-other a b i r.underWay x f ne) (entered-other r j k n i tk fu ne w)));
         inRange = λ i. by-bool (eqb i k) (λ e. rw e (λ h. rw (eqb-true i k e) (w .inRange k (λ z. let m = fit .1 in omega arith)))) (λ e. rw e (w .inRange i));
         modeRange = λ i. by-bool (eqb i k) (λ e. rw e (omega arith)) (λ e. rw e (w .modeRange i));
@@ -213,7 +213,7 @@ module _ (y : System) (lw : Lawful y) where
       (λ fu. let go : takes (settingOf y j) t k && allHeld y (rowsTaken r j k n) k ≡ false = rw tk fu in
       rw go (record {
         arbiters = λ i. rw (messages-append i rest (sentBy j new)) (by-bool (eqb i j)
-            (λ e. let ij = eqb-true i j e in rw e (rw (ij, messages-sentBy j new) (rw (tidy, go) at (home-reply r a b j u k n ent f w))))
+            (λ e. let ij = eqb-true i j e in rw e (rw (ij, messages-sentBy j new) (rw (tidy, go) at (reply-own-arbiter r a b j u k n ent f w))))
             (λ e. let ne = eqb-false i j e in rw (e, messages-other i j new ne, append-nil, without-other a b i r.underWay x f ne) (w .arbiters i)));
         inRange = w .inRange;
         modeRange = w .modeRange;

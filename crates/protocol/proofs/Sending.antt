@@ -14,7 +14,7 @@ use Rattle.protocol.specs.Helpers.{tally, first, withoutFirst}
 use Rattle.protocol.specs.Message.{Message, request, reply, release, handOver, inquire, fail, yield, transfer, REQUEST, RELEASE, INQUIRE, YIELD, HANDOVER, kind, route, between, isBack}
 use Rattle.protocol.specs.Setting.{Setting}
 use Rattle.protocol.proofs.Basics.{by-bool, clash, and-split}
-use Rattle.protocol.proofs.Lists.{tally-cons, tally-snoc, tally-snoc-no, all-snoc, first-holds, tally-without, all-without}
+use Rattle.protocol.proofs.Lists.{tally-cons, tally-snoc, tally-snoc-no, All, all-snoc, first-holds, tally-without, all-without}
 use Rattle.protocol.proofs.Invariant.{siteOf, carriesPermission, isRequestOf, isReturnOf, isHandOver, Ordered, Situation, Fits, UnderWay}
 
 -- a return may be sent where no request of that site is under way
@@ -85,28 +85,28 @@ return-from j i m r =
     rw (v .0, v .1, w .1, eq-eqb j j refl)
 
 -- no return of a site stands behind its request that is taken off
-pulled : (j a b : ℕ) (ms : List Message) (m : Message) → first (between j a b) ms ≡ some m → Ordered ms → (i : ℕ) → isRequestOf i m ≡ true → tally (isReturnOf i) (withoutFirst (between j a b) ms) ≡ 0
+no-return-behind : (j a b : ℕ) (ms : List Message) (m : Message) → first (between j a b) ms ≡ some m → Ordered ms → (i : ℕ) → isRequestOf i m ≡ true → tally (isReturnOf i) (withoutFirst (between j a b) ms) ≡ 0
 unfolding Ordered first withoutFirst tally
-pulled j a b [] m e o i r = refl
-pulled j a b (y ∷ ms) m e o i r =
+no-return-behind j a b [] m e o i r = refl
+no-return-behind j a b (y ∷ ms) m e o i r =
     by-bool (between j a b y)
     (λ t. let w : y ≡ m = cc in rw t (o .0 i (rw w r)))
     (λ t. let e′ = rw t at e in
-    let ih = pulled j a b ms m e′ (o .1) i r in
+    let ih = no-return-behind j a b ms m e′ (o .1) i r in
     let c = request-from j a b i m r (first-holds (between j a b) ms m e′) in
     let nb : isReturnOf i y ≡ false = by-bool (isReturnOf i y) (λ u. clash (between j a b y) (rw (c .0, c .1) (return-from j i y u)) t) (λ u. u) in
     rw (t, nb) ih)
 
 module _ (p : Setting) where
   -- the message that is taken off may stand first
-  pub pull : {s : Situation} {known : ℕ → ℕ} (ms : List Message) (a b : ℕ) (m : Message) → first (between (p .arbiter) a b) ms ≡ some m → UnderWay p s known ms → UnderWay p s known (m ∷ withoutFirst (between (p .arbiter) a b) ms)
+  pub first-underWay : {s : Situation} {known : ℕ → ℕ} (ms : List Message) (a b : ℕ) (m : Message) → first (between (p .arbiter) a b) ms ≡ some m → UnderWay p s known ms → UnderWay p s known (m ∷ withoutFirst (between (p .arbiter) a b) ms)
   unfolding Ordered
-  pull {s} ms a b m e x = record {
+  first-underWay {s} ms a b m e x = record {
     permissions = rw (tally-without (between (p .arbiter) a b) carriesPermission ms m e) (x .permissions);
     requests = λ k u w. rw (tally-without (between (p .arbiter) a b) (isRequestOf k) ms m e) (x .requests k u w);
     handOvers = λ u. rw (tally-without (between (p .arbiter) a b) (isHandOver s.holder s.owner s.grant) ms m e) (x .handOvers u);
     fit = all-without (between (p .arbiter) a b) _ ms m e (x .fit);
-    ordered = (pulled (p .arbiter) a b ms m e (x .ordered), ordered-without (between (p .arbiter) a b) ms m e (x .ordered));
+    ordered = (no-return-behind (p .arbiter) a b ms m e (x .ordered), ordered-without (between (p .arbiter) a b) ms m e (x .ordered));
   }
 
   -- one more message that carries nothing
@@ -132,3 +132,15 @@ module _ (p : Setting) where
   pub send-transfer : {s : Situation} {known : ℕ → ℕ} (ms : List Message) (k y n : ℕ) → 1 ≤ n → n ≤ s.grant → k ≡ s.holder → s.queued y ≢ 0 → p .member k ≡ true → p .member y ≡ true → UnderWay p s known ms → UnderWay p s known (ms ++ transfer k y n ∷ [])
   unfolding Fits
   send-transfer ms k y n a b c d h i x = send-quiet ms (transfer k y n) refl (λ i. refl) (λ i. refl) (a, b, λ u w. (c, d), h, i) x
+
+  -- a message that is no request and no hand-over and carries nothing may be taken off
+  pub take-quiet : {s : Situation} {known : ℕ → ℕ} (m : Message) (ms : List Message) → carriesPermission m ≡ false → ((i : ℕ) → isRequestOf i m ≡ false) → ((h x n : ℕ) → isHandOver h x n m ≡ false)
+      → UnderWay p s known (m ∷ ms) → UnderWay p s known ms
+  unfolding tally All Ordered
+  take-quiet {s} m ms nc nr nh x = record {
+    permissions = rw nc at (x .permissions);
+    requests = λ i u w. rw (nr i) at (x .requests i u w);
+    handOvers = λ u. rw (nh s.holder s.owner s.grant) at (x .handOvers u);
+    fit = x .fit .1;
+    ordered = x .ordered .1;
+  }

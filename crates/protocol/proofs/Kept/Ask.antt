@@ -27,12 +27,12 @@ module _ (p : Setting) where
     waiting = withEntries (withSites t (update t.mode k 1) (update t.seq k s) (update t.failed k false)) (update t.held k 0) (update t.heir k 0) (update t.inquired k 0)
 
     -- k is not known
-    nk : (i : ℕ) → o.known i ≢ 0 → eqb i k ≡ false
-    nk i h = ne-eqb i k (λ z. let y = c .asks .knownWaits i h .0 in let u : t.mode i ≡ REST = rw z w in omega arith)
+    not-known : (i : ℕ) → o.known i ≢ 0 → eqb i k ≡ false
+    not-known i h = ne-eqb i k (λ z. let y = c .asks .knownWaits i h .0 in let u : t.mode i ≡ REST = rw z w in omega arith)
 
     -- k does not hold the permission
-    no2 : o.stage ≡ HELD → o.owner ≢ k
-    no2 z y =
+    not-held : o.stage ≡ HELD → o.owner ≢ k
+    not-held z y =
         let x : t.mode o.owner ≡ REST = rw y w in
         by-bool (eqb (o.known o.owner) 0)
         (λ e. let u = c .asks .heldInside z (eqb-true _ _ e) in omega arith)
@@ -41,14 +41,14 @@ module _ (p : Setting) where
     ask-asks : Asks p waiting.holderSeq waiting.queued waiting.mode waiting.seq waiting.failed o.owner o.ahead o.stage o.known
     unfolding waiting update
     ask-asks = record {
-      queuedIfKnown = λ i ne h. rw (nk i h) (c .asks .queuedIfKnown i ne h);
+      queuedIfKnown = λ i ne h. rw (not-known i h) (c .asks .queuedIfKnown i ne h);
       emptyIfUnknown = c .asks .emptyIfUnknown;
-      ownerEntry = λ h. rw (nk o.owner h) (c .asks .ownerEntry h);
+      ownerEntry = λ h. rw (not-known o.owner h) (c .asks .ownerEntry h);
       outKnown = c .asks .outKnown;
-      heldInside = λ z h. rw (ne-eqb o.owner k (no2 z)) (c .asks .heldInside z h);
-      yieldedFailed = λ z. let y = c .asks .yieldedFailed z in rw (nk o.owner (y .0)) y;
+      heldInside = λ z h. rw (ne-eqb o.owner k (not-held z)) (c .asks .heldInside z h);
+      yieldedFailed = λ z. let y = c .asks .yieldedFailed z in rw (not-known o.owner (y .0)) y;
       releasedLeft = λ z. by-bool (eqb o.owner k) (λ e. rw e (c .asks .releasedLeft z .0, λ x. omega arith)) (λ e. rw e (c .asks .releasedLeft z));
-      knownWaits = λ i h. rw (nk i h) (c .asks .knownWaits i h);
+      knownWaits = λ i h. rw (not-known i h) (c .asks .knownWaits i h);
       insideHolds = λ i. by-bool (eqb i k) (λ e. rw e (λ x. absurd (omega arith))) (λ e. rw e (c .asks .insideHolds i));
       waitingNumbered = λ i. by-bool (eqb i k) (λ e. rw e (λ x. l)) (λ e. rw e (c .asks .waitingNumbered i));
       notWaitingClear = λ i. by-bool (eqb i k) (λ e. rw e (λ x. absurd (x refl))) (λ e. rw e (c .asks .notWaitingClear i));
@@ -58,7 +58,7 @@ module _ (p : Setting) where
     unfolding waiting update
     ask-column = record {
       holds = λ i. by-bool (eqb i k) (λ e. rw e (λ x. absurd (x refl))) (λ e. rw e (c .column .holds i));
-      number = λ z. rw (ne-eqb o.owner k (no2 z)) (c .column .number z);
+      number = λ z. rw (ne-eqb o.owner k (not-held z)) (c .column .number z);
       heirs = λ i. by-bool (eqb i k) (λ e. rw e (λ x. absurd (x refl))) (λ e. rw e (c .column .heirs i));
       remembered = λ i. by-bool (eqb i k) (λ e. rw e (λ x. absurd (x refl))) (λ e. rw e (c .column .remembered i));
     }
@@ -82,7 +82,7 @@ module _ (p : Setting) where
       permissions = rw (tally-snoc-no carriesPermission ms (request k s) refl) (c .underWay .permissions);
       requests = λ i. by-bool (eqb i k)
           (λ e. rw e (λ x y. let ik = eqb-true i k e in rw (ik, tally-snoc-yes (isRequestOf k) ms (request k s) (eq-eqb k k refl))
-          (let z = quiet in by-bool (eqb (o.known k) 0) (λ f. let u = eqb-true (o.known k) 0 f in omega arith) (λ f. clash (eqb k k) (eq-eqb k k refl) (nk k (eqb-false _ _ f))))))
+          (let z = quiet in by-bool (eqb (o.known k) 0) (λ f. let u = eqb-true (o.known k) 0 f in omega arith) (λ f. clash (eqb k k) (eq-eqb k k refl) (not-known k (eqb-false _ _ f))))))
           (λ e. rw (e, tally-snoc-no (isRequestOf i) ms (request k s) e) (c .underWay .requests i));
       handOvers = λ u. let z = c .underWay .handOvers u in let w = tally-snoc (isHandOver t.holder o.owner t.grant) ms (request k s) in omega arith;
       fit = all-snoc _ ms (request k s) ask-all (rw (eq-eqb k k refl) (refl, refl, mk));
@@ -104,8 +104,8 @@ module _ (p : Setting) where
     ask-owed : OwedIn p t o ms → OwedIn p waiting o ms
     unfolding waiting update
     ask-owed l = record {
-      failOwed = λ i a ne. rw (nk i a) (l .failOwed i a ne);
-      inquireOwed = λ u v x d. rw (nk o.owner d) (l .inquireOwed u v x d);
+      failOwed = λ i a ne. rw (not-known i a) (l .failOwed i a ne);
+      inquireOwed = λ u v x d. rw (not-known o.owner d) (l .inquireOwed u v x d);
       ascending = ascending-update p t.inquired k 0 ms (omega arith) (l .ascending);
     }
 

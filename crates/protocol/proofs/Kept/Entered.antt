@@ -20,9 +20,9 @@ use Rattle.protocol.proofs.Owing.{fix-owed, ascending-update}
 
 module _ (p : Setting) where
   -- a member enters
-  enter-member : (t : Local) (b d : ℕ) (known : ℕ → ℕ) (ms : List Message) → t.mode b ≡ WAITING → Core p t (ghost b d HELD known) ms → Core p ((entered (view t ms) b) .tables) (ghost b d HELD (update known b 0)) ms
+  entered-member : (t : Local) (b d : ℕ) (known : ℕ → ℕ) (ms : List Message) → t.mode b ≡ WAITING → Core p t (ghost b d HELD known) ms → Core p ((entered (view t ms) b) .tables) (ghost b d HELD (update known b 0)) ms
   unfolding entered update
-  enter-member t b d known ms w c =
+  entered-member t b d known ms w c =
       let busy = c .arbiter .whenTaken (λ z. omega arith) in
       let kb : known b ≢ 0 = λ z. let y = c .asks .heldInside refl z in omega arith in
       let r = c .underWay .requests b w (busy .0) in
@@ -58,9 +58,9 @@ module _ (p : Setting) where
       }
 
   -- a site enters that does not have this arbiter in its set
-  enter-stranger : (t : Local) (o : Ghost) (b : ℕ) (ms : List Message) → t.mode b ≡ WAITING → p .member b ≡ false → Core p t o ms → Core p ((entered (view t ms) b) .tables) o ms
+  entered-other-set : (t : Local) (o : Ghost) (b : ℕ) (ms : List Message) → t.mode b ≡ WAITING → p .member b ≡ false → Core p t o ms → Core p ((entered (view t ms) b) .tables) o ms
   unfolding entered update
-  enter-stranger t o b ms w nm c =
+  entered-other-set t o b ms w nm c =
       let nb : (k : ℕ) → p .member k ≡ true → eqb k b ≡ false = λ k m. ne-eqb k b (λ z. clash (p .member k) m (rw z nm)) in
       record {
         arbiter = c .arbiter;
@@ -103,7 +103,7 @@ module _ (p : Setting) where
       (λ e. let y = c .column .holds b (h e) in (
         ghost b o.ahead HELD (update o.known b 0),
         record {
-          core = enter-member t b o.ahead o.known ms w (fix p t o ms b o.ahead HELD (y .0) refl (sym (y .1)) c);
+          core = entered-member t b o.ahead o.known ms w (fix p t o ms b o.ahead HELD (y .0) refl (sym (y .1)) c);
           inquiriesFit = fits-still;
           freeQueueEmpty = λ z. absurd (omega arith);
           owed = let l = fix-owed p o.owner o.ahead o.stage b o.ahead HELD (y .0) refl (sym (y .1)) lv in record {
@@ -116,7 +116,7 @@ module _ (p : Setting) where
       (λ e. (
         o,
         record {
-          core = enter-stranger t o b ms w e c;
+          core = entered-other-set t o b ms w e c;
           inquiriesFit = fits-still;
           freeQueueEmpty = i;
           owed = let nb : (k : ℕ) → p .member k ≡ true → eqb k b ≡ false = λ k m. ne-eqb k b (λ z. clash (p .member k) m (rw z e)) in record {

@@ -19,7 +19,8 @@ use Rattle.protocol.specs.Rig.{asked}
 use Rattle.protocol.proofs.Basics.{by-bool, clash}
 use Rattle.protocol.proofs.Lists.{All}
 use Rattle.protocol.proofs.Invariant.{Ghost, FREE, HELD, isInquire, Ordered, Ascending, InquiryFits, Core, Invariant}
-use Rattle.protocol.proofs.Kept.Yielded.{OwedBut, yielded-kept, yielder}
+use Rattle.protocol.proofs.Sending.{take-quiet}
+use Rattle.protocol.proofs.Kept.Yielded.{OwedBut, yielded-kept, yielder-owns}
 
 module _ (p : Setting) where
   -- the fail may have been the last thing owed to b
@@ -32,13 +33,13 @@ module _ (p : Setting) where
       by-bool (eqb (t.mode b) WAITING)
       (λ e. let w = eqb-true (t.mode b) WAITING e in
       by-bool (eqb (t.held b) 0)
-      (λ h. rw (e, h) (plain w (λ i j. absurd (j (eqb-true (t.held b) 0 h)))))
+      (λ h. rw (e, h) (marked-only w (λ i j. absurd (j (eqb-true (t.held b) 0 h)))))
       (λ h. by-bool (eqb (t.inquired b) 0)
-      (λ i. rw (e, h, i) (plain w (λ k l. absurd (k (eqb-true (t.inquired b) 0 i)))))
+      (λ i. rw (e, h, i) (marked-only w (λ k l. absurd (k (eqb-true (t.inquired b) 0 i)))))
       (λ i. rw (e, h, i) (let hb = eqb-false (t.held b) 0 h in let ib = eqb-false (t.inquired b) 0 i in
       let q = inquiriesFit b ib hb in
       let l = c .column .remembered b ib in
-      let y = yielder p t o b ms c hb (omega arith) in
+      let y = yielder-owns p t o b ms c hb (omega arith) in
       yielded-kept p t o b ms (y .0) (y .1) (y .2) w c (λ k ne. inquiriesFit k) ow ascending))))
       (λ e. rw e (
         o,
@@ -54,8 +55,8 @@ module _ (p : Setting) where
         },
       ))
     where
-      plain : t.mode b ≡ WAITING → (t.inquired b ≢ 0 → t.held b ≢ 0 → ⊥) → Invariant p (view (withSites t t.mode t.seq (update t.failed b true)) ms)
-      plain w f = (
+      marked-only : t.mode b ≡ WAITING → (t.inquired b ≢ 0 → t.held b ≢ 0 → ⊥) → Invariant p (view (withSites t t.mode t.seq (update t.failed b true)) ms)
+      marked-only w f = (
         o,
         record {
           freeQueueEmpty = freeQueueEmpty;
@@ -96,6 +97,6 @@ module _ (p : Setting) where
         arbiter = v .arbiter;
         asks = v .asks;
         column = v .column;
-        underWay = record { permissions = underWay .permissions; requests = underWay .requests; handOvers = underWay .handOvers; fit = underWay .fit .1; ordered = underWay .ordered .1 };
+        underWay = take-quiet p (fail b) ms refl (λ i. refl) (λ h x g. refl) underWay;
       })
       (s .inquiriesFit) (s .freeQueueEmpty) (λ k ne. rw (ne-eqb k b ne) at (s .owed .failOwed k)) (s .owed .inquireOwed) (λ k. s .owed .ascending k .1)

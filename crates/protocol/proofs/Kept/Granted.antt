@@ -44,7 +44,7 @@ module _ (p : Setting) (law : SettingLaw p) where
   granted-core : (t : Local) (known : ℕ → ℕ) (k n : ℕ) (ms : List Message) → Core p t (ghost 0 0 FREE known) ms → known k ≢ 0 → n ≡ t.seq k
       → Core p (withArbiter t (suc t.grant) k n (update t.queued k 0)) (ghost k 0 OUT known) (ms ++ reply (p .arbiter) k (suc t.grant) ∷ [])
   unfolding update Fits
-  granted-core t known k n ms c kk nk =
+  granted-core t known k n ms c kk not-known =
       let w = c .asks .knownWaits k kk in
       let s1 = c .asks .waitingNumbered k (w .0) in
       let m1 = reply (p .arbiter) k (suc t.grant) in
@@ -62,7 +62,7 @@ module _ (p : Setting) (law : SettingLaw p) where
         asks = record {
           queuedIfKnown = λ i ne h. rw (ne-eqb i k ne) (c .asks .queuedIfKnown i (λ z. let y = law .siteInRange i (c .asks .knownWaits i h .1) in omega arith) h);
           emptyIfUnknown = λ i ne h. rw (ne-eqb i k ne) (by-bool (eqb i 0) (λ e. ap t.queued (eqb-true i 0 e ∙ h0) ∙ c .arbiter .holderNotQueued) (λ e. c .asks .emptyIfUnknown i (eqb-false i 0 e) h));
-          ownerEntry = λ h. (λ z. nk, λ z. absurd (z refl));
+          ownerEntry = λ h. (λ z. not-known, λ z. absurd (z refl));
           outKnown = λ z. kk;
           heldInside = λ z. absurd (omega arith);
           yieldedFailed = λ z. absurd (omega arith);
@@ -98,13 +98,13 @@ module _ (p : Setting) (law : SettingLaw p) where
       let r1 = head-of p law (update t.queued k 0) (p .size) in
       owed-send p ms (reply (p .arbiter) k (suc t.grant)) (λ i. refl) (record {
         failOwed = λ i x ne f z. absurd (ne (sym (l .failOwed i x f z) ∙ hk));
-        inquireOwed = λ u v w x hd b. absurd (fronts (headOf p (update t.queued k 0)) b (r1 .found hd) a);
+        inquireOwed = λ u v w x hd b. absurd (not-before (headOf p (update t.queued k 0)) b (r1 .found hd) a);
         ascending = l .ascending;
       })
     where
-      fronts : (h : ℕ) → p .comesBefore (update t.queued k 0 h) h n k ≡ true → (1 ≤ h) × (h ≤ p .size) × (update t.queued k 0 h ≢ 0)
+      not-before : (h : ℕ) → p .comesBefore (update t.queued k 0 h) h n k ≡ true → (1 ≤ h) × (h ≤ p .size) × (update t.queued k 0 h ≢ 0)
           → ((i : ℕ) → 1 ≤ i → i ≤ p .size → t.queued i ≢ 0 → i ≢ k → p .comesBefore (t.queued k) k (t.queued i) i ≡ true) → ⊥
-      fronts h b f a = by-bool (eqb h k)
+      not-before h b f a = by-bool (eqb h k)
           (λ e. f .2 (ap (update t.queued k 0) (eqb-true h k e) ∙ update-same t.queued k 0))
           (λ e. let ne = eqb-false h k e in let o = update-other t.queued k 0 h ne in
           clash (p .comesBefore (t.queued h) h (t.queued k) k) (rw (o, nq) at b) (asym p law (t.queued k) k (t.queued h) h (a h (f .0) (f .1) (λ z. f .2 (o ∙ z)) ne)))
@@ -113,8 +113,8 @@ module _ (p : Setting) (law : SettingLaw p) where
   pub granted-kept : (t : Local) (known : ℕ → ℕ) (k n : ℕ) (ms : List Message) → Core p t (ghost 0 0 FREE known) ms → ((i : ℕ) → InquiryFits t i) → known k ≢ 0 → n ≡ t.queued k → n ≡ t.seq k
       → headOf p t.queued ≡ k → OwedWhenFree p t.queued t.failed t.inquired known ms → Invariant p (granted p (view t ms) k n)
   unfolding granted
-  granted-kept t known k n ms c inquiriesFit kk nq nk hk l =
-      let v = granted-core t known k n ms c kk nk in
+  granted-kept t known k n ms c inquiriesFit kk nq not-known hk l =
+      let v = granted-core t known k n ms c kk not-known in
       let lv = granted-owed t known k n ms c kk nq hk l in
       let q1 = update t.queued k 0 in
       by-bool (eqb (headOf p q1) 0)

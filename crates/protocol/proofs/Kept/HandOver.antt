@@ -25,10 +25,10 @@ use Rattle.protocol.proofs.Kept.Granted.{queued-member}
 
 module _ (p : Setting) (law : SettingLaw p) where
   -- the arbiter hears of the hand-over
-  heard : (t : Local) (x stage : ℕ) (known : ℕ → ℕ) (k n : ℕ) (ms : List Message) → Core p t (ghost x 1 stage known) (handOver k x n ∷ ms)
+  takesOver-core : (t : Local) (x stage : ℕ) (known : ℕ → ℕ) (k n : ℕ) (ms : List Message) → Core p t (ghost x 1 stage known) (handOver k x n ∷ ms)
       → Core p (heldByHeir t x) (ghost x 0 stage known) ms
   unfolding update All Ordered tally
-  heard t x stage known k n ms c =
+  takesOver-core t x stage known k n ms c =
       let ov = c .arbiter .handedOver (λ z. omega arith) in
       record {
         arbiter = record {
@@ -73,7 +73,7 @@ module _ (p : Setting) (law : SettingLaw p) where
       → OwedIn p t (ghost x 1 stage known) (handOver k x n ∷ ms) → Invariant p (heirTakesOver p (view t ms) x)
   unfolding heirTakesOver tally Ascending
   heirTakesOver-kept t x stage known k n ms c inquiriesFit l =
-      let v = heard t x stage known k n ms c in
+      let v = takesOver-core t x stage known k n ms c in
       let q1 = update t.queued x 0 in
       let s0 : stage ≢ FREE = λ z. let y = c .arbiter .whenFree z .1 in omega arith in
       let mx = c .arbiter .whenTaken s0 .0 in

@@ -17,8 +17,9 @@ use Rattle.protocol.specs.Site.{onInquire}
 use Rattle.protocol.proofs.Basics.{by-bool, and-split}
 use Rattle.protocol.proofs.Lists.{All}
 use Rattle.protocol.proofs.Invariant.{isInquire, Ordered, Ascending, Fits, UnderWayIn, Core, Invariant}
+use Rattle.protocol.proofs.Sending.{take-quiet}
 use Rattle.protocol.proofs.Owing.{ascending-low}
-use Rattle.protocol.proofs.Kept.Yielded.{yielded-kept, yielder}
+use Rattle.protocol.proofs.Kept.Yielded.{yielded-kept, yielder-owns}
 
 module _ (p : Setting) where
   -- the rule
@@ -28,7 +29,7 @@ module _ (p : Setting) where
       let v = s .core in
       let underWay = v .underWay in
       let ok = underWay .fit .0 in
-      let tail : UnderWayIn p t o ms = record { permissions = underWay .permissions; requests = underWay .requests; handOvers = underWay .handOvers; fit = underWay .fit .1; ordered = underWay .ordered .1 } in
+      let tail : UnderWayIn p t o ms = take-quiet p (inquire b n) ms refl (λ i. refl) (λ h y g. refl) underWay in
       let c : Core p t o ms = record { arbiter = v .arbiter; asks = v .asks; column = v .column; underWay = tail } in
       let up : t.inquired b ≤ n = s .owed .ascending b .0 (eq-eqb b b refl) in
       let ascending : (k : ℕ) → Ascending k (t.inquired k) ms = λ k. by-bool (eqb k b)
@@ -37,21 +38,21 @@ module _ (p : Setting) where
       by-bool (eqb (t.mode b) WAITING)
       (λ e. let w = eqb-true (t.mode b) WAITING e in
       by-bool (eqb (t.held b) 0)
-      (λ h. rw (e, h) (note w c ok up ascending (λ i j. absurd (j (eqb-true (t.held b) 0 h)))))
+      (λ h. rw (e, h) (remember w c ok up ascending (λ i j. absurd (j (eqb-true (t.held b) 0 h)))))
       (λ h. by-bool (eqb n (t.held b))
       (λ i. let hn = eqb-true n (t.held b) i in by-bool (t.failed b)
-      (λ f. rw (e, h, i, f) (let y = yielder p t o b ms c (eqb-false (t.held b) 0 h) (omega arith) in yielded-kept p t o b ms (y .0) (y .1) (y .2) w c (λ k ne. s .inquiriesFit k) (λ k ne. s .owed .failOwed k) ascending))
-      (λ f. rw (e, h, i, f) (note w c ok up ascending (λ x y. (hn, f)))))
-      (λ i. rw (e, h, i) (drop c ascending (λ ob d0 known ng.
+      (λ f. rw (e, h, i, f) (let y = yielder-owns p t o b ms c (eqb-false (t.held b) 0 h) (omega arith) in yielded-kept p t o b ms (y .0) (y .1) (y .2) w c (λ k ne. s .inquiriesFit k) (λ k ne. s .owed .failOwed k) ascending))
+      (λ f. rw (e, h, i, f) (remember w c ok up ascending (λ x y. (hn, f)))))
+      (λ i. rw (e, h, i) (ignore c ascending (λ ob d0 known ng.
       let own = c .column .holds b (eqb-false (t.held b) 0 h) in
       let nu : t.held o.owner ≡ t.grant + o.ahead = c .column .number (own .1) in
       let hb : t.held b ≡ t.grant + o.ahead = rw (own .0) nu in
       eqb-false n (t.held b) i (omega arith))))))
-      (λ e. rw e (drop c ascending (λ ob d0 known ng. eqb-false (t.mode b) WAITING e (rw ob at (c .asks .knownWaits o.owner known .0)))))
+      (λ e. rw e (ignore c ascending (λ ob d0 known ng. eqb-false (t.mode b) WAITING e (rw ob at (c .asks .knownWaits o.owner known .0)))))
     where
       -- the inquire was not the one that is owed
-      drop : Core p t o ms → ((k : ℕ) → Ascending k (t.inquired k) ms) → (o.owner ≡ b → o.ahead ≡ 0 → o.known o.owner ≢ 0 → t.grant ≡ n → ⊥) → Invariant p (view t ms)
-      drop c ascending f = (
+      ignore : Core p t o ms → ((k : ℕ) → Ascending k (t.inquired k) ms) → (o.owner ≡ b → o.ahead ≡ 0 → o.known o.owner ≢ 0 → t.grant ≡ n → ⊥) → Invariant p (view t ms)
+      ignore c ascending f = (
         o,
         record {
           inquiriesFit = s .inquiriesFit;
@@ -68,9 +69,9 @@ module _ (p : Setting) where
         },
       )
 
-      note : t.mode b ≡ WAITING → Core p t o ms → (1 ≤ n) × (n ≤ t.grant) × (p .member b ≡ true) → t.inquired b ≤ n → ((k : ℕ) → Ascending k (t.inquired k) ms)
+      remember : t.mode b ≡ WAITING → Core p t o ms → (1 ≤ n) × (n ≤ t.grant) × (p .member b ≡ true) → t.inquired b ≤ n → ((k : ℕ) → Ascending k (t.inquired k) ms)
           → (n ≢ 0 → t.held b ≢ 0 → (n ≡ t.held b) × (t.failed b ≡ false)) → Invariant p (view (withEntries t t.held t.heir (update t.inquired b n)) ms)
-      note w c ok up ascending f = (
+      remember w c ok up ascending f = (
         o,
         record {
           freeQueueEmpty = s .freeQueueEmpty;

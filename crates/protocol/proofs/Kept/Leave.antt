@@ -17,7 +17,7 @@ use Rattle.protocol.proofs.Basics.{by-bool, clash, update-other}
 use Rattle.protocol.proofs.Lists.{tally-snoc, tally-snoc-no, tally-snoc-yes, All, all-snoc, all-map-not}
 use Rattle.protocol.proofs.Invariant.{Ghost, OUT, HELD, RELEASED, ghost, carriesPermission, isRequestOf, isHandOver, situation, InquiryFits, Fits, Column, Core, Invariant}
 use Rattle.protocol.proofs.Sending.{ordered-snoc}
-use Rattle.protocol.proofs.Fitting.{fix, fits-change, no-request, all-stage, all-mode}
+use Rattle.protocol.proofs.Fitting.{fix, fits-change, no-request, all-stage, all-mode, row-stage}
 use Rattle.protocol.proofs.Owing.{owed-send, fix-owed, ascending-update}
 use Rattle.protocol.proofs.Seen.{leaveSeen}
 
@@ -27,9 +27,9 @@ module _ (p : Setting) (law : SettingLaw p) where
   departed t k = withEntries (withSites t (update t.mode k 0) t.seq t.failed) (update t.held k 0) (update t.heir k 0) (update t.inquired k 0)
 
   -- a site leaves that does not have this arbiter in its set
-  leave-stranger : (t : Local) (o : Ghost) (k : ℕ) (ms : List Message) → t.mode k ≡ INSIDE → p .member k ≡ false → Core p t o ms → Core p (departed t k) o ms
+  left-other-set : (t : Local) (o : Ghost) (k : ℕ) (ms : List Message) → t.mode k ≡ INSIDE → p .member k ≡ false → Core p t o ms → Core p (departed t k) o ms
   unfolding update
-  leave-stranger t o k ms w nm c =
+  left-other-set t o k ms w nm c =
       let nb : (i : ℕ) → p .member i ≡ true → eqb i k ≡ false = λ i m. ne-eqb i k (λ z. clash (p .member i) m (rw z nm)) in
       record {
         arbiter = c .arbiter;
@@ -64,51 +64,51 @@ module _ (p : Setting) (law : SettingLaw p) where
 
   -- what is common to both ways to leave: the asks and columns that do not speak of the owner
   module _ (t : Local) (k d : ℕ) (known : ℕ → ℕ) (ms : List Message) (w : t.mode k ≡ INSIDE) (c : Core p t (ghost k d HELD known) ms) where
-    nk : (i : ℕ) → known i ≢ 0 → eqb i k ≡ false
-    nk i h = ne-eqb i k (λ z. let y = c .asks .knownWaits i h .0 in let u : t.mode i ≡ INSIDE = rw z w in omega arith)
+    not-known : (i : ℕ) → known i ≢ 0 → eqb i k ≡ false
+    not-known i h = ne-eqb i k (λ z. let y = c .asks .knownWaits i h .0 in let u : t.mode i ≡ INSIDE = rw z w in omega arith)
 
     known-none : known k ≡ 0
-    known-none = by-bool (eqb (known k) 0) (λ e. eqb-true (known k) 0 e) (λ e. clash (eqb k k) (eq-eqb k k refl) (nk k (eqb-false (known k) 0 e)))
+    known-none = by-bool (eqb (known k) 0) (λ e. eqb-true (known k) 0 e) (λ e. clash (eqb k k) (eq-eqb k k refl) (not-known k (eqb-false (known k) 0 e)))
 
-    none-of : tally (isRequestOf k) ms ≡ 0
-    none-of = no-request p (situation t k d HELD) k ms (inl (λ z. omega arith)) (c .underWay .fit)
+    no-request-of : tally (isRequestOf k) ms ≡ 0
+    no-request-of = no-request p (situation t k d HELD) k ms (inl (λ z. omega arith)) (c .underWay .fit)
 
-    l-inside : (owner stage : ℕ) (i : ℕ) → (departed t k) .mode i ≡ INSIDE → p .member i ≡ true → (i ≡ owner) × (stage ≡ HELD)
+    left-inside : (owner stage : ℕ) (i : ℕ) → (departed t k) .mode i ≡ INSIDE → p .member i ≡ true → (i ≡ owner) × (stage ≡ HELD)
     unfolding update
-    l-inside owner stage i = by-bool (eqb i k) (λ e. rw e (λ x. absurd (omega arith))) (λ e. rw e (λ x y. absurd (eqb-false i k e (c .asks .insideHolds i x y .0))))
+    left-inside owner stage i = by-bool (eqb i k) (λ e. rw e (λ x. absurd (omega arith))) (λ e. rw e (λ x y. absurd (eqb-false i k e (c .asks .insideHolds i x y .0))))
 
-    l-wait : (i : ℕ) → (departed t k) .mode i ≡ WAITING → 1 ≤ t.seq i
+    left-waiting : (i : ℕ) → (departed t k) .mode i ≡ WAITING → 1 ≤ t.seq i
     unfolding update
-    l-wait i = by-bool (eqb i k) (λ e. rw e (λ x. absurd (omega arith))) (λ e. rw e (c .asks .waitingNumbered i))
+    left-waiting i = by-bool (eqb i k) (λ e. rw e (λ x. absurd (omega arith))) (λ e. rw e (c .asks .waitingNumbered i))
 
-    l-calm : (i : ℕ) → (departed t k) .mode i ≢ WAITING → (t.seq i ≡ 0) × (t.failed i ≡ false)
+    left-clear : (i : ℕ) → (departed t k) .mode i ≢ WAITING → (t.seq i ≡ 0) × (t.failed i ≡ false)
     unfolding update
-    l-calm i = by-bool (eqb i k) (λ e. rw e (λ x. rw (eqb-true i k e) (c .asks .notWaitingClear k (λ z. omega arith)))) (λ e. rw e (c .asks .notWaitingClear i))
+    left-clear i = by-bool (eqb i k) (λ e. rw e (λ x. rw (eqb-true i k e) (c .asks .notWaitingClear k (λ z. omega arith)))) (λ e. rw e (c .asks .notWaitingClear i))
 
-    l-known : (i : ℕ) → known i ≢ 0 → ((departed t k) .mode i ≡ WAITING) × (p .member i ≡ true) × (known i ≡ 1)
+    left-known : (i : ℕ) → known i ≢ 0 → ((departed t k) .mode i ≡ WAITING) × (p .member i ≡ true) × (known i ≡ 1)
     unfolding update
-    l-known i h = rw (nk i h) (c .asks .knownWaits i h)
+    left-known i h = rw (not-known i h) (c .asks .knownWaits i h)
 
-    l-col : (owner d′ stage : ℕ) → stage ≢ HELD → Column p t.grant t.queued ((departed t k) .mode) ((departed t k) .held) ((departed t k) .heir) ((departed t k) .inquired) owner d′ stage
+    left-column : (owner d′ stage : ℕ) → stage ≢ HELD → Column p t.grant t.queued ((departed t k) .mode) ((departed t k) .held) ((departed t k) .heir) ((departed t k) .inquired) owner d′ stage
     unfolding update
-    l-col owner d′ stage s2 = record {
+    left-column owner d′ stage s2 = record {
       holds = λ i. by-bool (eqb i k) (λ e. rw e (λ x. absurd (x refl))) (λ e. rw e (λ x. absurd (eqb-false i k e (c .column .holds i x .0))));
       number = λ z. absurd (s2 z);
       heirs = λ i. by-bool (eqb i k) (λ e. rw e (λ x. absurd (x refl))) (λ e. rw e (λ x. absurd (eqb-false i k e (c .column .heirs i x .0))));
       remembered = λ i. by-bool (eqb i k) (λ e. rw e (λ x. absurd (x refl))) (λ e. rw e (c .column .remembered i));
     }
 
-    l-all : (owner d′ stage : ℕ) → All (Fits p (situation t owner d′ stage)) ms → All (Fits p (situation (departed t k) owner d′ stage)) ms
+    left-fit : (owner d′ stage : ℕ) → All (Fits p (situation t owner d′ stage)) ms → All (Fits p (situation (departed t k) owner d′ stage)) ms
     unfolding update
-    l-all owner d′ stage a = all-mode p (situation t owner d′ stage) _ _ k ms (λ i ne. (rw (ne-eqb i k ne), refl)) none-of a
+    left-fit owner d′ stage a = all-mode p (situation t owner d′ stage) _ _ k ms (λ i ne. (rw (ne-eqb i k ne), refl)) no-request-of a
 
     -- no heir: the permission travels back
-    leave-plain : Core p (departed t k) (ghost k d RELEASED known) (ms ++ release k (t.held k) ∷ [])
+    left-released : Core p (departed t k) (ghost k d RELEASED known) (ms ++ release k (t.held k) ∷ [])
     unfolding update Fits
-    leave-plain =
+    left-released =
         let z0 = known-none in
         record {
-          arbiter = record { aheadByOne = c .arbiter .aheadByOne; ownerIsHolder = c .arbiter .ownerIsHolder; handedOver = c .arbiter .handedOver; whenFree = λ z. absurd (omega arith); whenTaken = λ z. c .arbiter .whenTaken (λ y. omega arith); stageRange = omega arith; holderNotQueued = c .arbiter .holderNotQueued };
+          arbiter = row-stage p RELEASED (λ z. omega arith) (λ z. omega arith) (omega arith) (c .arbiter);
           asks = record {
             queuedIfKnown = c .asks .queuedIfKnown;
             emptyIfUnknown = c .asks .emptyIfUnknown;
@@ -117,26 +117,26 @@ module _ (p : Setting) (law : SettingLaw p) where
             heldInside = λ z. absurd (omega arith);
             yieldedFailed = λ z. absurd (omega arith);
             releasedLeft = λ z. (known-none, rw (eq-eqb k k refl) (λ y. omega arith));
-            knownWaits = l-known;
-            insideHolds = l-inside k 4;
-            waitingNumbered = l-wait;
-            notWaitingClear = l-calm;
+            knownWaits = left-known;
+            insideHolds = left-inside k 4;
+            waitingNumbered = left-waiting;
+            notWaitingClear = left-clear;
           };
-          column = l-col k d 4 (λ z. omega arith);
+          column = left-column k d 4 (λ z. omega arith);
           underWay = record {
             permissions = rw (tally-snoc-yes carriesPermission ms (release k (t.held k)) refl) (ap suc (c .underWay .permissions));
             requests = λ i. by-bool (eqb i k) (λ e. rw e (λ x. absurd (omega arith))) (λ e. rw (e, tally-snoc-no (isRequestOf i) ms (release k (t.held k)) refl) (c .underWay .requests i));
             handOvers = λ u. let z = c .underWay .handOvers u in let y = tally-snoc (isHandOver t.holder k t.grant) ms (release k (t.held k)) in omega arith;
-            fit = all-snoc _ ms (release k (t.held k)) (l-all k d 4 (all-stage p t k d HELD RELEASED ms (c .underWay .permissions) (c .underWay .fit))) (refl, c .column .number refl, refl);
-            ordered = ordered-snoc ms (release k (t.held k)) (λ i e. rw (eqb-true i k e) none-of) (c .underWay .ordered);
+            fit = all-snoc _ ms (release k (t.held k)) (left-fit k d 4 (all-stage p t k d HELD RELEASED ms (c .underWay .permissions) (c .underWay .fit))) (refl, c .column .number refl, refl);
+            ordered = ordered-snoc ms (release k (t.held k)) (λ i e. rw (eqb-true i k e) no-request-of) (c .underWay .ordered);
           };
         }
 
   -- with an heir: the permission travels on
-  leave-heir : (t : Local) (k x : ℕ) (known : ℕ → ℕ) (ms : List Message) → t.mode k ≡ INSIDE → t.queued x ≢ 0 → Core p t (ghost k 0 HELD known) ms
+  left-handed-over : (t : Local) (k x : ℕ) (known : ℕ → ℕ) (ms : List Message) → t.mode k ≡ INSIDE → t.queued x ≢ 0 → Core p t (ghost k 0 HELD known) ms
       → Core p (departed t k) (ghost x 1 OUT known) ((ms ++ reply k x (suc (t.held k)) ∷ []) ++ handOver k x (t.held k) ∷ [])
   unfolding update Fits
-  leave-heir t k x known ms w qx c =
+  left-handed-over t k x known ms w qx c =
       let busy = c .arbiter .whenTaken (λ y. omega arith) in
       let hk : k ≡ t.holder = c .arbiter .ownerIsHolder refl in
       let qk : t.queued k ≡ 0 = rw hk (c .arbiter .holderNotQueued) in
@@ -160,28 +160,28 @@ module _ (p : Setting) (law : SettingLaw p) where
           holderNotQueued = c .arbiter .holderNotQueued;
         };
         asks = record {
-          queuedIfKnown = λ i ne h. c .asks .queuedIfKnown i (eqb-false i k (nk t k 0 known ms w c i h)) h;
+          queuedIfKnown = λ i ne h. c .asks .queuedIfKnown i (eqb-false i k (not-known t k 0 known ms w c i h)) h;
           emptyIfUnknown = λ i ne h. by-bool (eqb i k) (λ e. rw (eqb-true i k e) qk) (λ e. c .asks .emptyIfUnknown i (eqb-false i k e) h);
           ownerEntry = λ h. (λ z. absurd (omega arith), λ z. c .asks .queuedIfKnown x xk kx);
           outKnown = λ z. kx;
           heldInside = λ z. absurd (omega arith);
           yieldedFailed = λ z. absurd (omega arith);
           releasedLeft = λ z. absurd (omega arith);
-          knownWaits = l-known t k 0 known ms w c;
-          insideHolds = l-inside t k 0 known ms w c x 1;
-          waitingNumbered = l-wait t k 0 known ms w c;
-          notWaitingClear = l-calm t k 0 known ms w c;
+          knownWaits = left-known t k 0 known ms w c;
+          insideHolds = left-inside t k 0 known ms w c x 1;
+          waitingNumbered = left-waiting t k 0 known ms w c;
+          notWaitingClear = left-clear t k 0 known ms w c;
         };
-        column = l-col t k 0 known ms w c x 1 1 (λ z. omega arith);
+        column = left-column t k 0 known ms w c x 1 1 (λ z. omega arith);
         underWay = record {
           permissions = rw (tally-snoc-no carriesPermission ms1 r2 refl, tally-snoc-yes carriesPermission ms r1 refl) (ap suc (c .underWay .permissions));
           requests = λ i. by-bool (eqb i k) (λ e. rw e (λ x. absurd (omega arith))) (λ e. rw (e, tally-snoc-no (isRequestOf i) ms1 r2 refl, tally-snoc-no (isRequestOf i) ms r1 refl) (c .underWay .requests i));
           handOvers = λ u. rw (tally-snoc-yes (isHandOver t.holder x t.grant) ms1 r2 (rw (eq-eqb t.holder k (sym hk), eq-eqb x x refl, eq-eqb t.grant (t.held k) (omega arith)))) (omega arith);
           fit = all-snoc _ ms1 r2 (all-snoc _ ms r1
-              (l-all t k 0 known ms w c x 1 1 (all-map-not _ _ carriesPermission ms (c .underWay .permissions) (λ m e a. fits-change p _ _ m (λ i r. (refl, refl)) (λ u. clash (carriesPermission m) u e) (omega arith) (λ i y u v. let w = v .2 in absurd (omega arith)) (λ i y u v f. f v) a) (c .underWay .fit)))
+              (left-fit t k 0 known ms w c x 1 1 (all-map-not _ _ carriesPermission ms (c .underWay .permissions) (λ m e a. fits-change p _ _ m (λ i r. (refl, refl)) (λ u. clash (carriesPermission m) u e) (omega arith) (λ i y u v. let w = v .2 in absurd (omega arith)) (λ i y u v f. f v) a) (c .underWay .fit)))
               (refl, omega arith, refl, kr .0, kr .1))
               (omega arith, λ u. (hk, refl, refl), busy .0, c .asks .knownWaits x kx .1, omega arith);
-          ordered = ordered-snoc ms1 r2 (λ i e. rw (tally-snoc-no (isRequestOf i) ms r1 refl, eqb-true i k e) (none-of t k 0 known ms w c)) (ordered-snoc ms r1 (λ i e. clash true refl (sym e)) (c .underWay .ordered));
+          ordered = ordered-snoc ms1 r2 (λ i e. rw (tally-snoc-no (isRequestOf i) ms r1 refl, eqb-true i k e) (no-request-of t k 0 known ms w c)) (ordered-snoc ms r1 (λ i e. clash true refl (sym e)) (c .underWay .ordered));
         };
       }
 
@@ -204,7 +204,7 @@ module _ (p : Setting) (law : SettingLaw p) where
       (λ h. rw (e, ne, h) (
         ghost k o.ahead RELEASED o.known,
         record {
-          core = leave-plain t k o.ahead o.known ms w c1;
+          core = left-released t k o.ahead o.known ms w c1;
           inquiriesFit = fits-still;
           freeQueueEmpty = λ z. absurd (omega arith);
           owed = owed-send p ms (release k (t.held k)) (λ i. refl) (let l = fix-owed p o.owner o.ahead o.stage k o.ahead HELD (y .0) refl (sym (y .1)) (s .owed) in
@@ -215,18 +215,18 @@ module _ (p : Setting) (law : SettingLaw p) where
       rw (e, ne, h) (
         ghost (t.heir k) 1 OUT o.known,
         record {
-          core = leave-heir t k (t.heir k) o.known ms w (x .3) (fix p t o ms k 0 HELD (y .0) (sym (x .2)) (sym (y .1)) c);
+          core = left-handed-over t k (t.heir k) o.known ms w (x .3) (fix p t o ms k 0 HELD (y .0) (sym (x .2)) (sym (y .1)) c);
           inquiriesFit = fits-still;
           freeQueueEmpty = λ z. absurd (omega arith);
           owed = owed-send p (ms ++ reply k (t.heir k) (suc (t.held k)) ∷ []) (handOver k (t.heir k) (t.held k)) (λ i. refl) (owed-send p ms (reply k (t.heir k) (suc (t.held k))) (λ i. refl)
               (let l = fix-owed p o.owner o.ahead o.stage k o.ahead HELD (y .0) refl (sym (y .1)) (s .owed) in
-              record { failOwed = λ i a ne. l .failOwed i a (eqb-false i k (nk t k o.ahead o.known ms w c1 i a)); inquireOwed = λ u. absurd (omega arith); ascending = ascending-update p t.inquired k 0 ms (omega arith) (s .owed .ascending) }));
+              record { failOwed = λ i a ne. l .failOwed i a (eqb-false i k (not-known t k o.ahead o.known ms w c1 i a)); inquireOwed = λ u. absurd (omega arith); ascending = ascending-update p t.inquired k 0 ms (omega arith) (s .owed .ascending) }));
         },
       )))
       (λ e. rw e (
         o,
         record {
-          core = leave-stranger t o k ms w e c;
+          core = left-other-set t o k ms w e c;
           inquiriesFit = fits-still;
           freeQueueEmpty = s .freeQueueEmpty;
           owed = record {

@@ -20,7 +20,7 @@ use Rattle.protocol.proofs.Fitting.{fix}
 use Rattle.protocol.proofs.Owing.{fix-owed}
 use Rattle.protocol.proofs.Head.{head-remove}
 use Rattle.protocol.proofs.Kept.Granted.{grantedHead-kept}
-use Rattle.protocol.proofs.Kept.Returned.{back-home}
+use Rattle.protocol.proofs.Kept.Returned.{returned-core}
 
 module _ (p : Setting) (law : SettingLaw p) where
   -- the rule, with the ghosts put to the message's names
@@ -38,7 +38,7 @@ module _ (p : Setting) (law : SettingLaw p) where
       let kh : k ≡ t.holder = c .arbiter .ownerIsHolder d0 in
       let now : fromHolder t k n ≡ true = and-true (eqb n t.grant) (eqb k t.holder) (eq-eqb n t.grant (omega arith)) (eq-eqb k t.holder kh) in
       rw now
-      (grantedHead-kept p law _ known ms (back-home p law t k d RELEASED known ms t.grant t.queued (λ z. omega arith) (λ z. omega arith) (omega arith) (λ i ne. refl) (λ z. absurd (z kk)) (λ z. rw kh (c .arbiter .holderNotQueued))
+      (grantedHead-kept p law _ known ms (returned-core p law t k d RELEASED known ms t.grant t.queued (λ z. omega arith) (λ z. omega arith) (omega arith) (λ i ne. refl) (λ z. absurd (z kk)) (λ z. rw kh (c .arbiter .holderNotQueued))
       (c .arbiter) (c .asks) (c .column) (omega arith) (c .underWay .requests) (c .underWay .fit .1) (c .underWay .ordered .1)) inquiriesFit
       (record { failOwed = λ i x f z. l .failOwed i x (ik i x) f z .0; ascending = λ i. l .ascending i .1 })))
       (λ e. let d0 = eqb-false d 0 e in
@@ -46,7 +46,7 @@ module _ (p : Setting) (law : SettingLaw p) where
       let not-now : fromHolder t k n ≡ false = by-bool (fromHolder t k n) (λ u. let z = eqb-true n t.grant (and-split (eqb n t.grant) (eqb k t.holder) u .0) in absurd (omega arith)) (λ u. u) in
       let early : isEarly t k n ≡ true = and-true (eqb n (suc t.grant)) (not (eqb (t.queued k) 0)) (eq-eqb n (suc t.grant) (omega arith)) (not-true (eqb (t.queued k) 0) (ne-eqb (t.queued k) 0 (λ z. omega arith))) in
       rw (not-now, early)
-      (grantedHead-kept p law _ known ms (back-home p law t k d RELEASED known ms (suc t.grant) (update t.queued k 0) (λ z. omega arith) (λ z. omega arith) (omega arith) (λ i ne. rw (ne-eqb i k ne)) (λ z. absurd (z kk)) (λ z. rw (eq-eqb k k refl))
+      (grantedHead-kept p law _ known ms (returned-core p law t k d RELEASED known ms (suc t.grant) (update t.queued k 0) (λ z. omega arith) (λ z. omega arith) (omega arith) (λ i ne. rw (ne-eqb i k ne)) (λ z. absurd (z kk)) (λ z. rw (eq-eqb k k refl))
       (c .arbiter) (c .asks) (c .column) (omega arith) (c .underWay .requests) (c .underWay .fit .1) (c .underWay .ordered .1)) inquiriesFit
       (record { failOwed = λ i x f z. head-remove p law t.queued i k (l .failOwed i x (ik i x) f z .0) (λ y. let w = law .siteInRange i (c .asks .knownWaits i x .1) in omega arith) (ik i x); ascending = λ i. l .ascending i .1 })))
 

@@ -17,7 +17,7 @@ use Rattle.protocol.specs.Site.{taken, onReply}
 use Rattle.protocol.proofs.Basics.{by-bool}
 use Rattle.protocol.proofs.Lists.{All}
 use Rattle.protocol.proofs.Invariant.{OUT, HELD, ghost, carriesPermission, Ordered, Ascending, InquiryFits, Fits, OwedIn, Core, Invariant}
-use Rattle.protocol.proofs.Fitting.{fix, all-stage}
+use Rattle.protocol.proofs.Fitting.{fix, all-stage, row-stage}
 use Rattle.protocol.proofs.Owing.{fix-owed, ascending-update}
 use Rattle.protocol.proofs.Kept.Yielded.{yielded-kept}
 use Rattle.protocol.proofs.Kept.Entered.{entered-kept}
@@ -36,7 +36,7 @@ module _ (p : Setting) where
         let kb : known b ≢ 0 = c .asks .outKnown refl in
         let tk = c .underWay .permissions in
         record {
-          arbiter = record { aheadByOne = c .arbiter .aheadByOne; ownerIsHolder = c .arbiter .ownerIsHolder; handedOver = c .arbiter .handedOver; whenFree = λ z. absurd (omega arith); whenTaken = λ z. c .arbiter .whenTaken (λ y. omega arith); stageRange = omega arith; holderNotQueued = c .arbiter .holderNotQueued };
+          arbiter = row-stage p HELD (λ z. omega arith) (λ z. omega arith) (omega arith) (c .arbiter);
           asks = record {
             queuedIfKnown = c .asks .queuedIfKnown;
             emptyIfUnknown = c .asks .emptyIfUnknown;

@@ -116,12 +116,12 @@ module _ (p : Setting) (law : SettingLaw p) where
       let ek = eq-eqb (headOf p t.queued) k hk in
       by-bool (formerTold p t k old)
       (λ e. rw (ek, e) (rest _ mk busy (send-fail p ms old (queued-member p law t o ms c old (qo (λ z. let y : eqb old 0 ≡ true = eq-eqb old 0 z in clash true refl (sym (rw y at e))))) (c .underWay))
-      (λ i a ne nk f z. snoc-none (isFailTo i) ms (fail old) (eq-eqb i old (sym (ow i a ne nk f (snoc-zero (isFailTo i) ms (fail old) z) .0))) z)
+      (λ i a ne not-known f z. snoc-none (isFailTo i) ms (fail old) (eq-eqb i old (sym (ow i a ne not-known f (snoc-zero (isFailTo i) ms (fail old) z) .0))) z)
       (λ i. ascending-other i (t.inquired i) ms (fail old) refl (ascending i))))
       (λ e. rw (ek, e) (rest _ mk busy (c .underWay)
-      (λ i a ne nk f z. let w = ow i a ne nk f z in let i1 = law .siteInRange i (c .asks .knownWaits i a .1) in let oi = w .0 in
+      (λ i a ne not-known f z. let w = ow i a ne not-known f z in let i1 = law .siteInRange i (c .asks .knownWaits i a .1) in let oi = w .0 in
       clash (formerTold p t k old)
-      (rw oi (and-true (not (eqb i 0)) (not (eqb i k) && beforeHolder p t i) (not-true (eqb i 0) (ne-eqb i 0 (λ y. omega arith))) (and-true (not (eqb i k)) (beforeHolder p t i) (not-true (eqb i k) (ne-eqb i k nk)) (w .1)))) e)
+      (rw oi (and-true (not (eqb i 0)) (not (eqb i k) && beforeHolder p t i) (not-true (eqb i 0) (ne-eqb i 0 (λ y. omega arith))) (and-true (not (eqb i k)) (beforeHolder p t i) (not-true (eqb i k) (ne-eqb i k not-known)) (w .1)))) e)
       ascending))
     where
       rest : (ms′ : List Message) → p .member k ≡ true → (p .member o.owner ≡ true) × (p .member t.holder ≡ true) × (1 ≤ t.holderSeq) × (1 ≤ t.grant) → UnderWayIn p t o ms′
@@ -165,15 +165,15 @@ module _ (p : Setting) (law : SettingLaw p) where
           ))
 
   -- who was queued is queued
-  old-at : (t : Local) (k n i : ℕ) → 1 ≤ n → t.queued i ≢ 0 → update t.queued k n i ≢ 0
+  still-queued : (t : Local) (k n i : ℕ) → 1 ≤ n → t.queued i ≢ 0 → update t.queued k n i ≢ 0
   unfolding update
-  old-at t k n i l y = by-bool (eqb i k) (λ e. rw e (λ z. omega arith)) (λ e. rw e y)
+  still-queued t k n i l y = by-bool (eqb i k) (λ e. rw e (λ z. omega arith)) (λ e. rw e y)
 
   -- without a holder the arbiter grants at once
-  grant-new : (t : Local) (o : Ghost) (k n : ℕ) (ms : List Message) → Core p t o (request k n ∷ ms) → Core p (withArbiter t t.grant t.holder t.holderSeq (update t.queued k n)) (ghost o.owner o.ahead o.stage (update o.known k 1)) ms
+  granted-at-once : (t : Local) (o : Ghost) (k n : ℕ) (ms : List Message) → Core p t o (request k n ∷ ms) → Core p (withArbiter t t.grant t.holder t.holderSeq (update t.queued k n)) (ghost o.owner o.ahead o.stage (update o.known k 1)) ms
       → ((i : ℕ) → InquiryFits t i) → (o.stage ≡ FREE → (i : ℕ) → t.queued i ≡ 0) → ((i : ℕ) → Ascending i (t.inquired i) ms) → t.holder ≡ 0 → Invariant p (granted p (view t ms) k n)
   unfolding granted All Fits update
-  grant-new t o k n ms c v inquiriesFit freeQueueEmpty ascending h0 =
+  granted-at-once t o k n ms c v inquiriesFit freeQueueEmpty ascending h0 =
       let ok = c .underWay .fit .0 in
       let s0 : o.stage ≡ FREE = by-bool (eqb o.stage FREE) (λ e. eqb-true o.stage FREE e) (λ e. let y = law .siteInRange t.holder (c .arbiter .whenTaken (eqb-false o.stage FREE e) .1) in absurd (omega arith)) in
       let fr = c .arbiter .whenFree s0 in
@@ -192,10 +192,10 @@ module _ (p : Setting) (law : SettingLaw p) where
       rw (update-update t.queued k n 0) at r
 
   -- k is not the head: it is told-owed
-  told-owed : (t : Local) (o : Ghost) (k n : ℕ) (ms : List Message) → Core p t o (request k n ∷ ms) → OwedIn p t o (request k n ∷ ms) → headOf p (update t.queued k n) ≢ k
+  failed-owed : (t : Local) (o : Ghost) (k n : ℕ) (ms : List Message) → Core p t o (request k n ∷ ms) → OwedIn p t o (request k n ∷ ms) → headOf p (update t.queued k n) ≢ k
       → Owed p t.grant t.holder t.holderSeq (update t.queued k n) t.failed t.inquired o.owner o.ahead o.stage (update o.known k 1) (ms ++ fail k ∷ [])
   unfolding All Fits tally Ascending
-  told-owed t o k n ms c l ne =
+  failed-owed t o k n ms c l ne =
       let ok = c .underWay .fit .0 in
       let f = new-request t o k n ms c in
       let no = not-own t o k n ms c in
@@ -205,9 +205,9 @@ module _ (p : Setting) (law : SettingLaw p) where
       record {
         failOwed = λ i a ni fi z. by-bool (eqb i k)
             (λ e. snoc-none (isFailTo i) ms (fail k) e z)
-            (λ e. let nk = eqb-false i k e in
-            let w = l .failOwed i (rw (update-other o.known k 1 i nk) at a) ni fi (snoc-zero (isFailTo i) ms (fail k) z) in
-            (sym same ∙ w .0, rw (update-other t.queued k n i nk) (w .1)));
+            (λ e. let not-known = eqb-false i k e in
+            let w = l .failOwed i (rw (update-other o.known k 1 i not-known) at a) ni fi (snoc-zero (isFailTo i) ms (fail k) z) in
+            (sym same ∙ w .0, rw (update-other t.queued k n i not-known) (w .1)));
         inquireOwed = λ u v x d hd b g1. snoc-keep (isInquire o.owner t.grant) ms (fail k) (l .inquireOwed u v x (rw ko at d) (λ z. hd (sym same ∙ z))
             (rw same (rw (update-other t.queued k n (headOf p (update t.queued k n)) ne) at b)) g1);
         ascending = λ i. ascending-other i (t.inquired i) ms (fail k) refl (l .ascending i .1);
@@ -224,21 +224,21 @@ module _ (p : Setting) (law : SettingLaw p) where
       let qk : q1 k ≡ n = update-same t.queued k n in
       let ascending : (i : ℕ) → Ascending i (t.inquired i) ms = λ i. s .owed .ascending i .1 in
       by-bool (eqb t.holder 0)
-      (λ e. rw e (grant-new t o k n ms c v (s .inquiriesFit) (s .freeQueueEmpty) ascending (eqb-true t.holder 0 e)))
+      (λ e. rw e (granted-at-once t o k n ms c v (s .inquiriesFit) (s .freeQueueEmpty) ascending (eqb-true t.holder 0 e)))
       (λ e. let h0 = eqb-false t.holder 0 e in
       let s0 : o.stage ≢ FREE = λ z. let y = c .arbiter .whenFree z in let w = c .arbiter .ownerIsHolder (y .1) in omega arith in
       by-bool (eqb (headOf p q1) k)
       (λ g. rw e (answers-kept _ (ghost o.owner o.ahead o.stage (update o.known k 1)) k (headOf p t.queued) ms v (s .inquiriesFit) s0 (λ z. omega arith)
-      (λ z. old-at t k n (headOf p t.queued) (f .4) ((head-of p law t.queued (p .size)) .found z .2))
+      (λ z. still-queued t k n (headOf p t.queued) (f .4) ((head-of p law t.queued (p .size)) .found z .2))
       (eqb-true (headOf p q1) k g)
-      (λ i a ne nk fi z. let w = s .owed .failOwed i (rw (update-other o.known k 1 i nk) at a) ne fi z in (w .0, rw (beforeHolder, update-other t.queued k n i nk) (w .1)))
+      (λ i a ne not-known fi z. let w = s .owed .failOwed i (rw (update-other o.known k 1 i not-known) at a) ne fi z in (w .0, rw (beforeHolder, update-other t.queued k n i not-known) (w .1)))
       ascending))
       (λ g. rw (e, g) (
         ghost o.owner o.ahead o.stage (update o.known k 1),
         record {
           inquiriesFit = s .inquiriesFit;
           freeQueueEmpty = λ z. absurd (s0 z);
-          owed = told-owed t o k n ms c (s .owed) (eqb-false (headOf p q1) k g);
+          owed = failed-owed t o k n ms c (s .owed) (eqb-false (headOf p q1) k g);
           core = record {
             arbiter = v .arbiter;
             asks = v .asks;

@@ -2,7 +2,7 @@
 -- owner, the arbiter is not behind and the number is the grant number: then the named heir is queued (T6), as T7 asks.
 -- Else nothing changes.
 use Prim.Native.Nat.{ℕ, _+_, _≤_}
-use mathlib.Core.Path.{_≡_, _∙_}
+use mathlib.Core.Path.{_≡_, refl, _∙_}
 use mathlib.Core.List.{List, _∷_}
 use native.Mathlib.Omega.{arith}
 use lib.Dec.{eqb}
@@ -15,6 +15,7 @@ use Rattle.protocol.specs.Site.{namesHeld, onTransfer}
 use Rattle.protocol.proofs.Basics.{by-bool}
 use Rattle.protocol.proofs.Lists.{All}
 use Rattle.protocol.proofs.Invariant.{Ordered, Ascending, Fits, OwedIn, UnderWayIn, Invariant}
+use Rattle.protocol.proofs.Sending.{take-quiet}
 
 module _ (p : Setting) (law : SettingLaw p) where
   -- the rule
@@ -23,7 +24,7 @@ module _ (p : Setting) (law : SettingLaw p) where
   onTransfer-kept t b x n ms (o, s) =
       let v = s .core in
       let underWay = v .underWay in
-      let tail : UnderWayIn p t o ms = record { permissions = underWay .permissions; requests = underWay .requests; handOvers = underWay .handOvers; fit = underWay .fit .1; ordered = underWay .ordered .1 } in
+      let tail : UnderWayIn p t o ms = take-quiet p (transfer b x n) ms refl (λ i. refl) (λ h y g. refl) underWay in
       let ok = underWay .fit .0 in
       let owed : OwedIn p t o ms = record { failOwed = s .owed .failOwed; inquireOwed = s .owed .inquireOwed; ascending = λ k. s .owed .ascending k .1 } in
       by-bool (namesHeld t b n)

@@ -20,7 +20,7 @@ use Rattle.protocol.proofs.Fitting.{fix}
 use Rattle.protocol.proofs.Owing.{fix-owed}
 use Rattle.protocol.proofs.Head.{head-of, head-is}
 use Rattle.protocol.proofs.Kept.Granted.{grantedHead-kept}
-use Rattle.protocol.proofs.Kept.Returned.{back-home}
+use Rattle.protocol.proofs.Kept.Returned.{returned-core}
 
 module _ (p : Setting) (law : SettingLaw p) where
   -- the rule, with the ghosts put to the message's names
@@ -34,7 +34,7 @@ module _ (p : Setting) (law : SettingLaw p) where
       let kh : k ≡ t.holder = c .arbiter .ownerIsHolder refl in
       let now : fromHolder t k n ≡ true = and-true (eqb n t.grant) (eqb k t.holder) (eq-eqb n t.grant (omega arith)) (eq-eqb k t.holder kh) in
       rw now
-      (grantedHead-kept p law _ known ms (back-home p law t k 0 YIELDED known ms t.grant (update t.queued k t.holderSeq) (λ z. omega arith) (λ z. omega arith) (omega arith) (λ i ne. rw (ne-eqb i k ne)) (λ z. rw (eq-eqb k k refl) (c .asks .ownerEntry kk .0 refl)) (λ z. absurd (kk z))
+      (grantedHead-kept p law _ known ms (returned-core p law t k 0 YIELDED known ms t.grant (update t.queued k t.holderSeq) (λ z. omega arith) (λ z. omega arith) (omega arith) (λ i ne. rw (ne-eqb i k ne)) (λ z. rw (eq-eqb k k refl) (c .asks .ownerEntry kk .0 refl)) (λ z. absurd (kk z))
       (c .arbiter) (c .asks) (c .column) (omega arith) (c .underWay .requests) (c .underWay .fit .1) (c .underWay .ordered .1)) inquiriesFit
       (record {
         ascending = λ i. l .ascending i .1;

@@ -19,7 +19,7 @@ use Rattle.protocol.proofs.Basics.{by-bool}
 use Rattle.protocol.proofs.Lists.{tally-snoc-no, tally-snoc-yes, all-snoc, snoc-zero}
 use Rattle.protocol.proofs.Invariant.{Ghost, HELD, YIELDED, ghost, carriesPermission, isRequestOf, isFailTo, Ascending, InquiryFits, Fits, Core, Invariant}
 use Rattle.protocol.proofs.Sending.{ordered-snoc}
-use Rattle.protocol.proofs.Fitting.{fix, all-stage}
+use Rattle.protocol.proofs.Fitting.{fix, all-stage, row-stage}
 use Rattle.protocol.proofs.Owing.{ascending-low, ascending-other}
 
 module _ (p : Setting) where
@@ -33,7 +33,7 @@ module _ (p : Setting) where
       let k1 = c .asks .knownWaits b kb in
       let r = c .underWay .requests b w (busy .0) in
       record {
-        arbiter = record { aheadByOne = c .arbiter .aheadByOne; ownerIsHolder = c .arbiter .ownerIsHolder; handedOver = c .arbiter .handedOver; whenFree = λ z. absurd (omega arith); whenTaken = λ z. busy; stageRange = omega arith; holderNotQueued = c .arbiter .holderNotQueued };
+        arbiter = row-stage p YIELDED (λ z. omega arith) (λ z. omega arith) (omega arith) (c .arbiter);
         asks = record {
           queuedIfKnown = c .asks .queuedIfKnown;
           emptyIfUnknown = c .asks .emptyIfUnknown;
@@ -85,8 +85,8 @@ module _ (p : Setting) where
   )
 
   -- what a site that waits and remembers an inquire of the number it holds knows
-  pub yielder : (t : Local) (o : Ghost) (b : ℕ) (ms : List Message) → Core p t o ms → t.held b ≢ 0 → t.held b ≤ t.grant → (b ≡ o.owner) × (0 ≡ o.ahead) × (HELD ≡ o.stage)
-  yielder t o b ms c h l =
+  pub yielder-owns : (t : Local) (o : Ghost) (b : ℕ) (ms : List Message) → Core p t o ms → t.held b ≢ 0 → t.held b ≤ t.grant → (b ≡ o.owner) × (0 ≡ o.ahead) × (HELD ≡ o.stage)
+  yielder-owns t o b ms c h l =
       let own = c .column .holds b h in
       let nu : t.held o.owner ≡ t.grant + o.ahead = c .column .number (own .1) in
       let hb : t.held b ≡ t.grant + o.ahead = rw (own .0) nu in
