@@ -90,7 +90,7 @@ module _ (p : Setting) (law : SettingLaw p) where
     v : View
     v = view t ms
 
-    -- who owns waits or is inside unless it has released-back; and the owner's kind
+    -- the arbiter is one hand-over behind
     ahead-one : o.ahead ≢ 0 → o.ahead ≡ 1
     ahead-one z = let y = c .arbiter .aheadByOne in omega arith
 

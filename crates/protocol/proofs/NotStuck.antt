@@ -6,6 +6,7 @@ use mathlib.Core.Path.{_≡_, refl, sym, _∙_}
 use mathlib.Core.Logic.{_⊎_, inl, inr, _≢_, ⊎-elim}
 use mathlib.Core.Bool.{Bool, true, false, not, _&&_}
 use mathlib.Core.List.{[]}
+use mathlib.Core.Option.{none}
 use native.Mathlib.Omega.{arith}
 use lib.Dec.{eqb}
 use borrow.Author.Tests.{eqb-true, eqb-false, eq-eqb, ne-eqb}
@@ -108,8 +109,8 @@ module _ (y : System) (lw : Lawful y) (s : Sites) (rows : ℕ → Row)
   waits : ℕ → Bool
   waits k = eqb (s.mode k) WAITING
 
-  free : ℕ → Bool
-  free k = eqb (s.mode k) WAITING && not (s.failed k)
+  unfailed : ℕ → Bool
+  unfailed k = eqb (s.mode k) WAITING && not (s.failed k)
 
   not-false : (b : Bool) → not b ≡ true → b ≡ false
   not-false true e = sym e
@@ -121,8 +122,8 @@ module _ (y : System) (lw : Lawful y) (s : Sites) (rows : ℕ → Row)
   next k m d = let (j, e, h) = lacksOne k m in waits-for-later (settingOf y j) (law-of y lw j) (localOf s (rows j)) (inv j) out k m e h d
 
   -- so none that is not failed is the last
-  no-last : Least later late-irrefl late-trans free (suc y.size) → ⊥
-  unfolding later free
+  no-last : Least later late-irrefl late-trans unfailed (suc y.size) → ⊥
+  unfolding later unfailed
   no-last l =
       let w = and-split (eqb (s.mode l.at) WAITING) (not (s.failed l.at)) l.marked in
       let (h, m, f, b) = next l.at (eqb-true (s.mode l.at) WAITING (w .0)) (inl (not-false (s.failed l.at) (w .1))) in
@@ -131,12 +132,12 @@ module _ (y : System) (lw : Lawful y) (s : Sites) (rows : ℕ → Row)
 
   -- nobody is stuck: with nothing under way and nobody inside, nobody waits
   pub nobody-waits : (k : ℕ) → s.mode k ≢ WAITING
-  unfolding sooner later waits free
+  unfolding sooner later waits unfailed
   nobody-waits k m = ⊎-elim
       (λ l. let lm = eqb-true (s.mode l.at) WAITING l.marked in
       let (h, mh, f, b) = next l.at lm (inr (λ i mi ne. let z = inRange i mi in lw .total (s.seq i) i (s.seq l.at) l.at ne (l.first i (omega arith) (eq-eqb (s.mode i) WAITING mi)))) in
       let z = inRange h mh in
-      ⊎-elim no-last (λ none-free. clash (free h) (rw (eq-eqb (s.mode h) WAITING mh, f)) (none-free h (omega arith)))
-      (least later late-irrefl late-trans free (suc y.size)))
-      (λ nobody-waits. let z = inRange k m in clash (waits k) (eq-eqb (s.mode k) WAITING m) (nobody-waits k (omega arith)))
+      ⊎-elim no-last (λ none-unfailed. clash (unfailed h) (rw (eq-eqb (s.mode h) WAITING mh, f)) (none-unfailed h (omega arith)))
+      (least later late-irrefl late-trans unfailed (suc y.size)))
+      (λ none. let z = inRange k m in clash (waits k) (eq-eqb (s.mode k) WAITING m) (none k (omega arith)))
       (least sooner soon-irrefl soon-trans waits (suc y.size))

@@ -47,6 +47,7 @@ rowOf t = record { grant = t.grant; holder = t.holder; holderSeq = t.holderSeq; 
 abbrev pub sitesOf : Local → Sites
 sitesOf t = record { mode = t.mode; seq = t.seq; failed = t.failed }
 
+-- the messages of arbiter j, out of all and back
 unfoldable pub messagesOf : ℕ → List Sent → List Message
 messagesOf j [] = []
 messagesOf j (x ∷ xs) = cond (eqb j x.arbiter) (x.message ∷ messagesOf j xs) (messagesOf j xs)
@@ -90,7 +91,7 @@ localAt r j = localOf r.sites (r.rows j)
 abbrev pub rowsTaken : Rig → ℕ → ℕ → ℕ → ℕ → Row
 rowsTaken r j b n = update r.rows j (rowOf (taken (localAt r j) b n))
 
--- the site enters: the remembered inquires of the other arbiters
+-- "all remembered inquires become 0" when a site enters: those of the other arbiters
 abbrev pub withoutInquired : Row → ℕ → Row
 withoutInquired r b = record { grant = r.grant; holder = r.holder; holderSeq = r.holderSeq; queued = r.queued; held = r.held; heir = r.heir; inquired = update r.inquired b 0 }
 
@@ -143,7 +144,8 @@ module _ (y : System) where
   abbrev pub failSeen : Rig → ℕ → ℕ → View
   failSeen r b i = onFail (view (localAt r i) []) b
 
-  -- the message m of arbiter j is taken off, rest is the list without it
+  -- what the message m of arbiter j makes of the rig; rest is the list without it. A request raises the clock of the site that is the
+  -- arbiter; a fail may be followed by yields to every arbiter; a reply may let its site enter.
   unfoldable pub delivered : Rig → List Sent → ℕ → Message → Rig
   delivered r rest j (request k n) = withEffect r rest (update r.clock j (max (r.clock j) n)) j (request k n)
   delivered r rest j (release k n) = withEffect r rest r.clock j (release k n)

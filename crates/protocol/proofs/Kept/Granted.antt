@@ -44,7 +44,7 @@ module _ (p : Setting) (law : SettingLaw p) where
   granted-core : (t : Local) (known : ℕ → ℕ) (k n : ℕ) (ms : List Message) → Core p t (ghost 0 0 FREE known) ms → known k ≢ 0 → n ≡ t.seq k
       → Core p (withArbiter t (suc t.grant) k n (update t.queued k 0)) (ghost k 0 OUT known) (ms ++ reply (p .arbiter) k (suc t.grant) ∷ [])
   unfolding update Fits
-  granted-core t known k n ms c kk not-known =
+  granted-core t known k n ms c kk nk =
       let w = c .asks .knownWaits k kk in
       let s1 = c .asks .waitingNumbered k (w .0) in
       let m1 = reply (p .arbiter) k (suc t.grant) in
@@ -62,7 +62,7 @@ module _ (p : Setting) (law : SettingLaw p) where
         asks = record {
           queuedIfKnown = λ i ne h. rw (ne-eqb i k ne) (c .asks .queuedIfKnown i (λ z. let y = law .siteInRange i (c .asks .knownWaits i h .1) in omega arith) h);
           emptyIfUnknown = λ i ne h. rw (ne-eqb i k ne) (by-bool (eqb i 0) (λ e. ap t.queued (eqb-true i 0 e ∙ h0) ∙ c .arbiter .holderNotQueued) (λ e. c .asks .emptyIfUnknown i (eqb-false i 0 e) h));
-          ownerEntry = λ h. (λ z. not-known, λ z. absurd (z refl));
+          ownerEntry = λ h. (λ z. nk, λ z. absurd (z refl));
           outKnown = λ z. kk;
           heldInside = λ z. absurd (omega arith);
           yieldedFailed = λ z. absurd (omega arith);
@@ -113,8 +113,8 @@ module _ (p : Setting) (law : SettingLaw p) where
   pub granted-kept : (t : Local) (known : ℕ → ℕ) (k n : ℕ) (ms : List Message) → Core p t (ghost 0 0 FREE known) ms → ((i : ℕ) → InquiryFits t i) → known k ≢ 0 → n ≡ t.queued k → n ≡ t.seq k
       → headOf p t.queued ≡ k → OwedWhenFree p t.queued t.failed t.inquired known ms → Invariant p (granted p (view t ms) k n)
   unfolding granted
-  granted-kept t known k n ms c inquiriesFit kk nq not-known hk l =
-      let v = granted-core t known k n ms c kk not-known in
+  granted-kept t known k n ms c inquiriesFit kk nq nk hk l =
+      let v = granted-core t known k n ms c kk nk in
       let lv = granted-owed t known k n ms c kk nq hk l in
       let q1 = update t.queued k 0 in
       by-bool (eqb (headOf p q1) 0)

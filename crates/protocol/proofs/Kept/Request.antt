@@ -105,7 +105,7 @@ module _ (p : Setting) (law : SettingLaw p) where
           };
         }
 
-  -- with a holder: only messages that carry nothing go out. All but k were told-owed or will be, or the former head is told-owed now.
+  -- with a holder: only messages that carry nothing go out. All but k were told or will be, or the former head is told now.
   answers-kept : (t : Local) (o : Ghost) (k old : ℕ) (ms : List Message) → Core p t o ms → ((i : ℕ) → InquiryFits t i) → o.stage ≢ FREE → t.queued k ≢ 0 → (old ≢ 0 → t.queued old ≢ 0)
       → headOf p t.queued ≡ k → ((i : ℕ) → o.known i ≢ 0 → i ≢ o.owner → i ≢ k → t.failed i ≡ false → tally (isFailTo i) ms ≡ 0 → (old ≡ i) × (beforeHolder p t i ≡ true)) → ((i : ℕ) → Ascending i (t.inquired i) ms)
       → Invariant p (answers p (view t ms) k old)
@@ -116,12 +116,12 @@ module _ (p : Setting) (law : SettingLaw p) where
       let ek = eq-eqb (headOf p t.queued) k hk in
       by-bool (formerTold p t k old)
       (λ e. rw (ek, e) (rest _ mk busy (send-fail p ms old (queued-member p law t o ms c old (qo (λ z. let y : eqb old 0 ≡ true = eq-eqb old 0 z in clash true refl (sym (rw y at e))))) (c .underWay))
-      (λ i a ne not-known f z. snoc-none (isFailTo i) ms (fail old) (eq-eqb i old (sym (ow i a ne not-known f (snoc-zero (isFailTo i) ms (fail old) z) .0))) z)
+      (λ i a ne nk f z. snoc-none (isFailTo i) ms (fail old) (eq-eqb i old (sym (ow i a ne nk f (snoc-zero (isFailTo i) ms (fail old) z) .0))) z)
       (λ i. ascending-other i (t.inquired i) ms (fail old) refl (ascending i))))
       (λ e. rw (ek, e) (rest _ mk busy (c .underWay)
-      (λ i a ne not-known f z. let w = ow i a ne not-known f z in let i1 = law .siteInRange i (c .asks .knownWaits i a .1) in let oi = w .0 in
+      (λ i a ne nk f z. let w = ow i a ne nk f z in let i1 = law .siteInRange i (c .asks .knownWaits i a .1) in let oi = w .0 in
       clash (formerTold p t k old)
-      (rw oi (and-true (not (eqb i 0)) (not (eqb i k) && beforeHolder p t i) (not-true (eqb i 0) (ne-eqb i 0 (λ y. omega arith))) (and-true (not (eqb i k)) (beforeHolder p t i) (not-true (eqb i k) (ne-eqb i k not-known)) (w .1)))) e)
+      (rw oi (and-true (not (eqb i 0)) (not (eqb i k) && beforeHolder p t i) (not-true (eqb i 0) (ne-eqb i 0 (λ y. omega arith))) (and-true (not (eqb i k)) (beforeHolder p t i) (not-true (eqb i k) (ne-eqb i k nk)) (w .1)))) e)
       ascending))
     where
       rest : (ms′ : List Message) → p .member k ≡ true → (p .member o.owner ≡ true) × (p .member t.holder ≡ true) × (1 ≤ t.holderSeq) × (1 ≤ t.grant) → UnderWayIn p t o ms′
@@ -191,7 +191,7 @@ module _ (p : Setting) (law : SettingLaw p) where
       let r = granted-kept p law (withArbiter t t.grant t.holder t.holderSeq (update t.queued k n)) (update o.known k 1) k n ms v1 inquiriesFit (rw (eq-eqb k k refl) (λ z. omega arith)) (rw (eq-eqb k k refl)) (sym (ok .1)) hk hm in
       rw (update-update t.queued k n 0) at r
 
-  -- k is not the head: it is told-owed
+  -- k is not the head: it is told
   failed-owed : (t : Local) (o : Ghost) (k n : ℕ) (ms : List Message) → Core p t o (request k n ∷ ms) → OwedIn p t o (request k n ∷ ms) → headOf p (update t.queued k n) ≢ k
       → Owed p t.grant t.holder t.holderSeq (update t.queued k n) t.failed t.inquired o.owner o.ahead o.stage (update o.known k 1) (ms ++ fail k ∷ [])
   unfolding All Fits tally Ascending
@@ -205,9 +205,9 @@ module _ (p : Setting) (law : SettingLaw p) where
       record {
         failOwed = λ i a ni fi z. by-bool (eqb i k)
             (λ e. snoc-none (isFailTo i) ms (fail k) e z)
-            (λ e. let not-known = eqb-false i k e in
-            let w = l .failOwed i (rw (update-other o.known k 1 i not-known) at a) ni fi (snoc-zero (isFailTo i) ms (fail k) z) in
-            (sym same ∙ w .0, rw (update-other t.queued k n i not-known) (w .1)));
+            (λ e. let nk = eqb-false i k e in
+            let w = l .failOwed i (rw (update-other o.known k 1 i nk) at a) ni fi (snoc-zero (isFailTo i) ms (fail k) z) in
+            (sym same ∙ w .0, rw (update-other t.queued k n i nk) (w .1)));
         inquireOwed = λ u v x d hd b g1. snoc-keep (isInquire o.owner t.grant) ms (fail k) (l .inquireOwed u v x (rw ko at d) (λ z. hd (sym same ∙ z))
             (rw same (rw (update-other t.queued k n (headOf p (update t.queued k n)) ne) at b)) g1);
         ascending = λ i. ascending-other i (t.inquired i) ms (fail k) refl (l .ascending i .1);
@@ -231,7 +231,7 @@ module _ (p : Setting) (law : SettingLaw p) where
       (λ g. rw e (answers-kept _ (ghost o.owner o.ahead o.stage (update o.known k 1)) k (headOf p t.queued) ms v (s .inquiriesFit) s0 (λ z. omega arith)
       (λ z. still-queued t k n (headOf p t.queued) (f .4) ((head-of p law t.queued (p .size)) .found z .2))
       (eqb-true (headOf p q1) k g)
-      (λ i a ne not-known fi z. let w = s .owed .failOwed i (rw (update-other o.known k 1 i not-known) at a) ne fi z in (w .0, rw (beforeHolder, update-other t.queued k n i not-known) (w .1)))
+      (λ i a ne nk fi z. let w = s .owed .failOwed i (rw (update-other o.known k 1 i nk) at a) ne fi z in (w .0, rw (beforeHolder, update-other t.queued k n i nk) (w .1)))
       ascending))
       (λ g. rw (e, g) (
         ghost o.owner o.ahead o.stage (update o.known k 1),
