@@ -3,22 +3,26 @@
 use Prim.Native.Nat.{ℕ, suc}
 use mathlib.Core.Path.{_≡_, refl}
 use mathlib.Core.Logic.{_≢_}
-use mathlib.Core.Bool.{Bool, true, false, not, _&&_, cond}
+use mathlib.Core.Bool.{Bool, true, false, not, _&&_, _||_, cond}
 use mathlib.Core.List.{List, [], _++_, append-assoc, append-nil}
 use lib.Dec.{eqb}
 use borrow.Author.Tests.{ne-eqb}
 use Rattle.protocol.specs.Helpers.{update}
-use Rattle.protocol.specs.Message.{Message, request, reply, release, handOver, inquire, fail, yield, transfer}
+use Rattle.protocol.specs.Message.{Message, request, reply, release, handOver, inquire, fail, yield, transfer, REPLY, FAIL, kind}
 use Rattle.protocol.specs.Setting.{Setting}
 use Rattle.protocol.specs.Local.{WAITING, Local, View, view, withArbiter, withQueued}
 use Rattle.protocol.specs.Arbiter.{fromHolder, isEarly, headOf, beforeHolder, granted, grantedHead, formerTold, failFormer, inquireOrFail, answers, queuedUp, onRequest, earlyRelease, onRelease, heirTakesOver, onHandOver, onYield}
 use Rattle.protocol.specs.Site.{yielded, entered, taken, mustYield, onInquire, onFail, namesHeld, onTransfer, takes, onReply, handled}
 use Rattle.protocol.specs.Rig.{localOf, rowOf, sitesOf}
-use Rattle.protocol.proofs.Basics.{by-bool, and-split, update-marked}
+use Rattle.protocol.proofs.Basics.{by-bool, clash, and-split, update-marked}
 
 -- a handler appends, keeps the sites' mode, number and mark, and gives nobody the permission
 abbrev pub OneRow : (View → View) → Local → List Message → Type 0
 OneRow F t ms = (F (view t ms) ≡ view (localOf (sitesOf t) (rowOf ((F (view t [])) .tables))) (ms ++ (F (view t [])) .messages)) × ((k : ℕ) → t.held k ≡ 0 → (F (view t [])) .tables .held k ≡ 0)
+
+-- neither a reply nor a fail
+abbrev pub Simple : Message → Type 0
+Simple m = (eqb (kind m) REPLY || eqb (kind m) FAIL) ≡ false
 
 module _ (p : Setting) where
   -- each rule in turn
@@ -136,25 +140,14 @@ module _ (p : Setting) where
       (λ g. rw (e, f, g, ne-eqb k b ne) h)))
       (λ e. rw e h)
 
-  -- the simple messages: neither reply nor fail
-  unfoldable pub Simple : Message → Type 0
-  Simple (request k n) = Unit {0}
-  Simple (reply f k n) = ⊥
-  Simple (release k n) = Unit {0}
-  Simple (handOver k x n) = Unit {0}
-  Simple (inquire k n) = Unit {0}
-  Simple (fail k) = ⊥
-  Simple (yield k n) = Unit {0}
-  Simple (transfer k x n) = Unit {0}
-
   -- so every message but a reply and a fail changes one row
   pub handled-row : (t : Local) (m : Message) (ms : List Message) → Simple m → OneRow (λ v. handled p v false m) t ms
-  unfolding handled Simple
+  unfolding handled
   handled-row t (request k n) ms u = onRequest-row t k n ms
-  handled-row t (reply f k n) ms u = absurd u
+  handled-row t (reply f k n) ms u = clash true refl u
   handled-row t (release k n) ms u = onRelease-row t k n ms
   handled-row t (handOver k x n) ms u = onHandOver-row t k x n ms
   handled-row t (inquire k n) ms u = onInquire-row t k n ms
-  handled-row t (fail k) ms u = absurd u
+  handled-row t (fail k) ms u = clash true refl u
   handled-row t (yield k n) ms u = onYield-row t k n ms
   handled-row t (transfer k x n) ms u = onTransfer-row t k x n ms

@@ -24,7 +24,7 @@ use Rattle.protocol.proofs.Kept.Ask.{askSeen-kept}
 use Rattle.protocol.proofs.Kept.Leave.{leaveSeen-kept}
 use Rattle.protocol.proofs.EveryMessage.{freshView, first-invariant, handled-kept, fresh-invariant}
 use Rattle.protocol.proofs.Clauses.{FitsTables}
-use Rattle.protocol.proofs.OneRow.{onFail-row, onReply-row, reply-held, Simple, handled-row}
+use Rattle.protocol.proofs.OneRow.{Simple, onFail-row, onReply-row, reply-held, handled-row}
 use Rattle.protocol.proofs.RigMessages.{messages-append, messages-sentBy, messages-other, first-messages, without-messages, without-other, messages-all}
 use Rattle.protocol.proofs.RigInvariant.{RigInvariant, first-fits, arbiter-range, held-range, not-member}
 
@@ -76,7 +76,7 @@ module _ (y : System) (lw : Lawful y) where
       (first-invariant (settingOf y x.arbiter) (law-of y lw x.arbiter) (localAt r x.arbiter) (messagesOf x.arbiter r.underWay) a b x.message (first-messages a b r.underWay x f) (w .arbiters x.arbiter)))
 
   -- a message that changes one row
-  withEffect-kept : (r : Rig) (a b : ℕ) (x : Sent) (clock : ℕ → ℕ) → ((k : ℕ) → clock k ≢ 0 → (1 ≤ k) × (k ≤ y.size)) → Simple (settingOf y x.arbiter) x.message → first (channel a b) r.underWay ≡ some x → RigInvariant y r → RigInvariant y (withEffect y r (withoutFirst (channel a b) r.underWay) clock x.arbiter x.message)
+  withEffect-kept : (r : Rig) (a b : ℕ) (x : Sent) (clock : ℕ → ℕ) → ((k : ℕ) → clock k ≢ 0 → (1 ≤ k) × (k ≤ y.size)) → Simple x.message → first (channel a b) r.underWay ≡ some x → RigInvariant y r → RigInvariant y (withEffect y r (withoutFirst (channel a b) r.underWay) clock x.arbiter x.message)
   unfolding update
   withEffect-kept r a b x clock cl u f w =
       let j = x.arbiter in
@@ -233,15 +233,15 @@ module _ (y : System) (lw : Lawful y) where
 
   -- any message
   delivered-kept : (r : Rig) (a b j : ℕ) (m : Message) → first (channel a b) r.underWay ≡ some (sent j (m)) → RigInvariant y r → RigInvariant y (delivered y r (withoutFirst (channel a b) r.underWay) j m)
-  unfolding delivered Simple update FitsTables
+  unfolding delivered update FitsTables
   delivered-kept r a b j (reply u k n) e w = reply-kept r a b j u k n e w
   delivered-kept r a b j (fail k) e w = fail-kept r a b j k e w
-  delivered-kept r a b j (request k n) e w = withEffect-kept r a b (sent j (request k n)) (update r.clock j (max (r.clock j) n)) (λ i. by-bool (eqb i j) (λ u. rw u (λ h. rw (eqb-true i j u) (lw .memberInRange k j (first-fits y lw r a b j (request k n) e w .3)))) (λ u. rw u (w .clockInRange i))) tt e w
-  delivered-kept r a b j (release k n) e w = withEffect-kept r a b (sent j (release k n)) r.clock (w .clockInRange) tt e w
-  delivered-kept r a b j (handOver k x n) e w = withEffect-kept r a b (sent j (handOver k x n)) r.clock (w .clockInRange) tt e w
-  delivered-kept r a b j (inquire k n) e w = withEffect-kept r a b (sent j (inquire k n)) r.clock (w .clockInRange) tt e w
-  delivered-kept r a b j (yield k n) e w = withEffect-kept r a b (sent j (yield k n)) r.clock (w .clockInRange) tt e w
-  delivered-kept r a b j (transfer k x n) e w = withEffect-kept r a b (sent j (transfer k x n)) r.clock (w .clockInRange) tt e w
+  delivered-kept r a b j (request k n) e w = withEffect-kept r a b (sent j (request k n)) (update r.clock j (max (r.clock j) n)) (λ i. by-bool (eqb i j) (λ u. rw u (λ h. rw (eqb-true i j u) (lw .memberInRange k j (first-fits y lw r a b j (request k n) e w .3)))) (λ u. rw u (w .clockInRange i))) refl e w
+  delivered-kept r a b j (release k n) e w = withEffect-kept r a b (sent j (release k n)) r.clock (w .clockInRange) refl e w
+  delivered-kept r a b j (handOver k x n) e w = withEffect-kept r a b (sent j (handOver k x n)) r.clock (w .clockInRange) refl e w
+  delivered-kept r a b j (inquire k n) e w = withEffect-kept r a b (sent j (inquire k n)) r.clock (w .clockInRange) refl e w
+  delivered-kept r a b j (yield k n) e w = withEffect-kept r a b (sent j (yield k n)) r.clock (w .clockInRange) refl e w
+  delivered-kept r a b j (transfer k x n) e w = withEffect-kept r a b (sent j (transfer k x n)) r.clock (w .clockInRange) refl e w
 
   -- any delivery
   takenOff-kept : (r : Rig) (a b : ℕ) (x : Option Sent) → first (channel a b) r.underWay ≡ x → RigInvariant y r → RigInvariant y (takenOff y r a b x)
