@@ -25,7 +25,7 @@ pub record Ghost : Type 0 where
   pub stage : ℕ
   pub known : ℕ → ℕ
 
--- at home; travelling out in a reply; held by the owner; travelling back in a yield; travelling back in a release
+-- free; travelling out in a reply; held by the owner; travelling back in a yield; travelling back in a release
 abbrev pub FREE : ℕ
 FREE = 0
 

@@ -11,7 +11,7 @@ use borrow.Author.Tests.{eqb-true, eqb-false, eq-eqb, ne-eqb}
 use Rattle.protocol.specs.Helpers.{update, tally}
 use Rattle.protocol.specs.Message.{Message, request}
 use Rattle.protocol.specs.Setting.{Setting}
-use Rattle.protocol.specs.Local.{REST, Local, view, withSites, withEntries}
+use Rattle.protocol.specs.Local.{REST, WAITING, Local, view, withSites, withoutEntry}
 use Rattle.protocol.proofs.Basics.{by-bool, clash}
 use Rattle.protocol.proofs.Lists.{tally-snoc, tally-snoc-no, tally-snoc-yes, All, all-snoc}
 use Rattle.protocol.proofs.Invariant.{Ghost, HELD, carriesPermission, isRequestOf, isHandOver, situation, InquiryFits, Fits, Asks, Column, OwedIn, UnderWayIn, Core, Invariant}
@@ -24,7 +24,7 @@ module _ (p : Setting) where
   module _ (t : Local) (k s : ℕ) (ms : List Message) (w : t.mode k ≡ REST) (l : 1 ≤ s) (o : Ghost) (c : Core p t o ms) where
     -- the tables when k has asked
     waiting : Local
-    waiting = withEntries (withSites t (update t.mode k 1) (update t.seq k s) (update t.failed k false)) (update t.held k 0) (update t.heir k 0) (update t.inquired k 0)
+    waiting = withoutEntry (withSites t (update t.mode k WAITING) (update t.seq k s) (update t.failed k false)) k
 
     -- k is not known
     not-known : (i : ℕ) → o.known i ≢ 0 → eqb i k ≡ false

@@ -23,7 +23,7 @@ use Rattle.protocol.proofs.Owing.{owed-send}
 use Rattle.protocol.proofs.Head.{asym, head-of}
 
 module _ (p : Setting) where
-  -- what is owed while the permission is at home
+  -- what is owed while the permission is free
   pub record OwedWhenFree (q : ℕ → ℕ) (failed : ℕ → Bool) (inquired : ℕ → ℕ) (known : ℕ → ℕ) (ms : List Message) : Type 0 where
     pub failOwed : (k : ℕ) → known k ≢ 0 → failed k ≡ false → tally (isFailTo k) ms ≡ 0 → headOf p q ≡ k
     pub ascending : (k : ℕ) → Ascending k (inquired k) ms

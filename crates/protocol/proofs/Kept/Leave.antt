@@ -12,7 +12,7 @@ use borrow.Author.Tests.{eqb-true, eqb-false, eq-eqb, ne-eqb}
 use Rattle.protocol.specs.Helpers.{update, tally}
 use Rattle.protocol.specs.Message.{Message, reply, release, handOver}
 use Rattle.protocol.specs.Setting.{Setting, SettingLaw}
-use Rattle.protocol.specs.Local.{WAITING, INSIDE, Local, view, withSites, withEntries}
+use Rattle.protocol.specs.Local.{REST, WAITING, INSIDE, Local, view, withSites, withoutEntry}
 use Rattle.protocol.proofs.Basics.{by-bool, clash, update-other}
 use Rattle.protocol.proofs.Lists.{tally-snoc, tally-snoc-no, tally-snoc-yes, All, all-snoc, all-map-not}
 use Rattle.protocol.proofs.Invariant.{Ghost, OUT, HELD, RELEASED, ghost, carriesPermission, isRequestOf, isHandOver, situation, InquiryFits, Fits, Column, Core, Invariant}
@@ -22,9 +22,9 @@ use Rattle.protocol.proofs.Owing.{owed-send, fix-owed, ascending-update
 use Rattle.protocol.proofs.Seen.{leaveSeen}
 
 module _ (p : Setting) (law : SettingLaw p) where
-  -- the tables when k has departed
+  -- the tables when k has left
   abbrev departed : Local → ℕ → Local
-  departed t k = withEntries (withSites t (update t.mode k 0) t.seq t.failed) (update t.held k 0) (update t.heir k 0) (update t.inquired k 0)
+  departed t k = withoutEntry (withSites t (update t.mode k REST) t.seq t.failed) k
 
   -- a site leaves that does not have this arbiter in its set
   left-other-set : (t : Local) (o : Ghost) (k : ℕ) (ms : List Message) → t.mode k ≡ INSIDE → p .member k ≡ false → Core p t o ms → Core p (departed t k) o ms
@@ -64,12 +64,14 @@ module _ (p : Setting) (law : SettingLaw p) where
 
   -- what is common to both ways to leave: the asks and columns that do not speak of the owner
   module _ (t : Local) (k d : ℕ) (known : ℕ → ℕ) (ms : List Message) (w : t.mode k ≡ INSIDE) (c : Core p t (ghost k d HELD known) ms) where
+    -- k is not known
     not-known : (i : ℕ) → known i ≢ 0 → eqb i k ≡ false
     not-known i h = ne-eqb i k (λ z. let y = c .asks .knownWaits i h .0 in let u : t.mode i ≡ INSIDE = rw z w in omega arith)
 
     known-none : known k ≡ 0
     known-none = by-bool (eqb (known k) 0) (λ e. eqb-true (known k) 0 e) (λ e. clash (eqb k k) (eq-eqb k k refl) (not-known k (eqb-false (known k) 0 e)))
 
+    -- no request of k is under way
     no-request-of : tally (isRequestOf k) ms ≡ 0
     no-request-of = no-request p (situation t k d HELD) k ms (inl (λ z. omega arith)) (c .underWay .fit)
 

@@ -1,5 +1,5 @@
 -- A release without heir arrives. It is the permission (T4), so it is the holder's with the grant number, or, where the arbiter is one
--- hand-over behind, early: the next number, of the owner, which is still queued. It is never stray, and the permission comes home.
+-- hand-over behind, early: the next number, of the owner, which is still queued. It is never stray, and the permission is free again.
 use Prim.Native.Nat.{ℕ, suc}
 use mathlib.Core.Path.{_≡_, refl, sym, ap, _∙_}
 use mathlib.Core.Logic.{_≢_}

@@ -1,4 +1,4 @@
--- The permission comes home: the message that carried it is taken off, the holder is cleared, and the grant number is that of the
+-- The permission is free again: the message that carried it is taken off, the holder is cleared, and the grant number is that of the
 -- permission. What is left to do is to grant the head, if any.
 use Prim.Native.Nat.{ℕ, _+_}
 use mathlib.Core.Path.{_≡_, refl, _∙_}
