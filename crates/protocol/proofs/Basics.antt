@@ -25,8 +25,8 @@ and-split false b e = clash false e refl
 pub and-true : (a b : Bool) → a ≡ true → b ≡ true → a && b ≡ true
 and-true a b e f = rw (e, f)
 
-pub not-true : (a : Bool) → a ≡ false → not a ≡ true
-not-true a e = rw e
+pub not-of : (a : Bool) → a ≡ false → not a ≡ true
+not-of a e = rw e
 
 -- Tables
 

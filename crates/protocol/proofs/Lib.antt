@@ -19,3 +19,4 @@ pub mod RigInvariant
 pub mod RigKept
 pub mod Demand3
 pub mod Numbers
+pub mod Priority

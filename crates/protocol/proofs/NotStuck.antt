@@ -9,7 +9,7 @@ use mathlib.Core.List.{[]}
 use mathlib.Core.Option.{none}
 use native.Mathlib.Omega.{arith}
 use lib.Dec.{eqb}
-use borrow.Author.Tests.{eqb-true, eqb-false, eq-eqb, ne-eqb}
+use borrow.Author.Tests.{eqb-true, eqb-false, eq-eqb, ne-eqb, not-true}
 use Rattle.protocol.specs.Helpers.{tally, first}
 use Rattle.protocol.specs.Setting.{Setting, SettingLaw}
 use Rattle.protocol.specs.Local.{REST, WAITING, Local, view}
@@ -112,10 +112,6 @@ module _ (y : System) (lw : Lawful y) (s : Sites) (rows : ℕ → Row)
   unfailed : ℕ → Bool
   unfailed k = eqb (s.mode k) WAITING && not (s.failed k)
 
-  not-false : (b : Bool) → not b ≡ true → b ≡ false
-  not-false true e = sym e
-  not-false false e = refl
-
   -- from a waiting site to a later one, which is not failed
   next : (k : ℕ) → s.mode k ≡ WAITING → (s.failed k ≡ false) ⊎ ((i : ℕ) → s.mode i ≡ WAITING → i ≢ k → y.comesBefore (s.seq k) k (s.seq i) i ≡ true)
       → (h : ℕ) × (s.mode h ≡ WAITING) × (s.failed h ≡ false) × (y.comesBefore (s.seq k) k (s.seq h) h ≡ true)
@@ -126,7 +122,7 @@ module _ (y : System) (lw : Lawful y) (s : Sites) (rows : ℕ → Row)
   unfolding later unfailed
   no-last l =
       let w = and-split (eqb (s.mode l.at) WAITING) (not (s.failed l.at)) l.marked in
-      let (h, m, f, b) = next l.at (eqb-true (s.mode l.at) WAITING (w .0)) (inl (not-false (s.failed l.at) (w .1))) in
+      let (h, m, f, b) = next l.at (eqb-true (s.mode l.at) WAITING (w .0)) (inl (not-true (s.failed l.at) (w .1))) in
       let z = inRange h m in
       clash (y.comesBefore (s.seq l.at) l.at (s.seq h) h) b (l.first h (omega arith) (rw (eq-eqb (s.mode h) WAITING m, f)))
 

@@ -13,7 +13,7 @@ use Rattle.protocol.specs.Message.{Message, release}
 use Rattle.protocol.specs.Setting.{Setting, SettingLaw}
 use Rattle.protocol.specs.Local.{Local, view}
 use Rattle.protocol.specs.Arbiter.{fromHolder, isEarly, earlyRelease, onRelease}
-use Rattle.protocol.proofs.Basics.{by-bool, and-split, and-true, not-true}
+use Rattle.protocol.proofs.Basics.{by-bool, and-split, and-true, not-of}
 use Rattle.protocol.proofs.Lists.{All}
 use Rattle.protocol.proofs.Invariant.{RELEASED, ghost, Ordered, Ascending, InquiryFits, Fits, OwedIn, Core, Invariant}
 use Rattle.protocol.proofs.Fitting.{fix}
@@ -44,7 +44,7 @@ module _ (p : Setting) (law : SettingLaw p) where
       (λ e. let d0 = eqb-false d 0 e in
       let ov = c .arbiter .handedOver d0 in
       let not-now : fromHolder t k n ≡ false = by-bool (fromHolder t k n) (λ u. let z = eqb-true n t.grant (and-split (eqb n t.grant) (eqb k t.holder) u .0) in absurd (omega arith)) (λ u. u) in
-      let early : isEarly t k n ≡ true = and-true (eqb n (suc t.grant)) (not (eqb (t.queued k) 0)) (eq-eqb n (suc t.grant) (omega arith)) (not-true (eqb (t.queued k) 0) (ne-eqb (t.queued k) 0 (λ z. omega arith))) in
+      let early : isEarly t k n ≡ true = and-true (eqb n (suc t.grant)) (not (eqb (t.queued k) 0)) (eq-eqb n (suc t.grant) (omega arith)) (not-of (eqb (t.queued k) 0) (ne-eqb (t.queued k) 0 (λ z. omega arith))) in
       rw (not-now, early)
       (grantedHead-kept p law _ known ms (returned-core p law t k d RELEASED known ms (suc t.grant) (update t.queued k 0) (λ z. omega arith) (λ z. omega arith) (omega arith) (λ i ne. rw (ne-eqb i k ne)) (λ z. absurd (z kk)) (λ z. rw (eq-eqb k k refl))
       (c .arbiter) (c .asks) (c .column) (omega arith) (c .underWay .requests) (c .underWay .fit .1) (c .underWay .ordered .1)) inquiriesFit

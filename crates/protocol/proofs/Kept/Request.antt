@@ -14,7 +14,7 @@ use Rattle.protocol.specs.Message.{Message, request, inquire, fail, tran
 use Rattle.protocol.specs.Setting.{Setting, SettingLaw}
 use Rattle.protocol.specs.Local.{WAITING, Local, view, send, withArbiter}
 use Rattle.protocol.specs.Arbiter.{headOf, beforeHolder, granted, formerTold, failFormer, inquireOrFail, answers, queuedUp, onRequest}
-use Rattle.protocol.proofs.Basics.{by-bool, clash, and-true, not-true, update-same, update-other, update-update}
+use Rattle.protocol.proofs.Basics.{by-bool, clash, and-true, not-of, update-same, update-other, update-update}
 use Rattle.protocol.proofs.Lists.{All, all-map, snoc-pos, snoc-keep, snoc-zero, snoc-none, tally-mono}
 use Rattle.protocol.proofs.Invariant.{Ghost, FREE, OUT, HELD, YIELDED, RELEASED, ghost, carriesPermission, isRequestOf, isReturnOf, isHandOver, isFailTo, isInquire, Ordered, Ascending, situation, InquiryFits, Fits, Owed, OwedIn, UnderWayIn, Core, Invariant}
 use Rattle.protocol.proofs.Sending.{send-fail, send-inquire, send-transfer}
@@ -121,7 +121,7 @@ module _ (p : Setting) (law : SettingLaw p) where
       (λ e. rw (ek, e) (rest _ mk busy (c .underWay)
       (λ i a ne nk f z. let w = ow i a ne nk f z in let i1 = law .siteInRange i (c .asks .knownWaits i a .1) in let oi = w .0 in
       clash (formerTold p t k old)
-      (rw oi (and-true (not (eqb i 0)) (not (eqb i k) && beforeHolder p t i) (not-true (eqb i 0) (ne-eqb i 0 (λ y. omega arith))) (and-true (not (eqb i k)) (beforeHolder p t i) (not-true (eqb i k) (ne-eqb i k nk)) (w .1)))) e)
+      (rw oi (and-true (not (eqb i 0)) (not (eqb i k) && beforeHolder p t i) (not-of (eqb i 0) (ne-eqb i 0 (λ y. omega arith))) (and-true (not (eqb i k)) (beforeHolder p t i) (not-of (eqb i k) (ne-eqb i k nk)) (w .1)))) e)
       ascending))
     where
       rest : (ms′ : List Message) → p .member k ≡ true → (p .member o.owner ≡ true) × (p .member t.holder ≡ true) × (1 ≤ t.holderSeq) × (1 ≤ t.grant) → UnderWayIn p t o ms′
