@@ -6,15 +6,15 @@ use lib.ListN.{replicate}
 use Rattle.rig.specs.declared.Event.{Event}
 use Rattle.rig.specs.declared.Event.the-variants.{Ask, Leave, Deliver}
 use Rattle.rig.specs.Limits.{messageLimit, siteLimit}
-use Rattle.model.specs.Tables.{at, put, cell, putCell, all, any, count}
+use Rattle.model.specs.Tables.{at, put, cell, all, any, count}
 use Rattle.model.specs.Sets.{member, meet, names}
-use Rattle.model.specs.Setup.{sizeListed, allName, meetsEarlier, allMeet, setupCode, freshRig}
-use Rattle.model.specs.State.{freshTables}
+use Rattle.model.specs.Setup.{sizeListed, allName, meetsEarlier, allMeet, setupCode, keptSets, freshRig}
+use Rattle.model.specs.State.{freshTables, deskOf, withDesk}
 use Rattle.model.specs.Priority.{comesBefore, headWith, head}
 use Rattle.model.specs.Ask.{requests, asked}
 use Rattle.model.specs.Leave.{handOn, handOns, left}
-use Rattle.model.specs.Arbiter.{headOf, nextHeir, granted, grantedHead, clockRaised, failFormer, inquireOrFail, answers, queuedUp, onRequest, inquireIfBefore, heirTakesOver, holderReleases, isEarly, earlyRelease, onRelease, onYield}
-use Rattle.model.specs.Site.{failedSet, yielded, allHeld, entered, taken, enteredOrYielded, onReply, remembered, yieldedOrRemembered, onInquire, yieldedIf, yieldedUpTo, onFail, onTransfer}
+use Rattle.model.specs.Arbiter.{headOf, nextHeir, granted, grantedHead, clockRaised, failFormer, inquireOrFail, answers, queuedUp, onRequest, inquireIfBefore, headNamed, heirTakesOver, holderReleases, fromHolder, isEarly, earlyRelease, onRelease, onYield}
+use Rattle.model.specs.Site.{failedSet, yielded, allHeld, entered, taken, enteredOrYielded, takes, onReply, remembered, yieldedOrRemembered, onInquire, mustYield, yieldedIf, yieldedUpTo, onFail, onTransfer}
 use Rattle.model.specs.Deliver.{between, first, withoutFirst, delivered}
 use Rattle.model.specs.Shape.{isNumber, isGiven, setsShaped, acceptedShaped, modeShaped, siteBlank, siteShaped, sitesShaped, holderShaped, arbiterShaped, arbitersShaped, entryShaped, heldShaped, inquiredShaped, heirShaped, queuedShaped, everywhere, numberShaped, aboutShaped, messageShaped, messagesShaped, tablesShaped, wellShaped}
 use Rattle.model.specs.Event.{actor, sitesNamed, takenOff, attempt, allNumbers, numbersFit, limitCode, blankMessage, padded, accepted, settled, judged, event}
@@ -62,5 +62,5 @@ pub printedExample :
     ∷ line 12 0 0 0 0
     ∷ line 13 7 0 0 0
     ∷ []
-unfolding at put cell putCell all any count member meet names sizeListed allName meetsEarlier allMeet setupCode freshRig freshTables comesBefore headWith head requests asked handOn handOns left headOf nextHeir granted grantedHead clockRaised failFormer inquireOrFail answers queuedUp onRequest inquireIfBefore heirTakesOver holderReleases isEarly earlyRelease onRelease onYield failedSet yielded allHeld entered taken enteredOrYielded onReply remembered yieldedOrRemembered onInquire yieldedIf yieldedUpTo onFail onTransfer between first withoutFirst delivered isNumber isGiven setsShaped acceptedShaped modeShaped siteBlank siteShaped sitesShaped holderShaped arbiterShaped arbitersShaped entryShaped heldShaped inquiredShaped heirShaped queuedShaped everywhere numberShaped aboutShaped messageShaped messagesShaped tablesShaped wellShaped actor sitesNamed takenOff attempt allNumbers numbersFit limitCode padded accepted settled judged event fresh waitingCount insideUpTo lineOf printed
+unfolding at put cell all any count member meet names sizeListed allName meetsEarlier allMeet setupCode keptSets freshRig freshTables deskOf withDesk comesBefore headWith head requests asked handOn handOns left headOf nextHeir granted grantedHead clockRaised failFormer inquireOrFail answers queuedUp onRequest inquireIfBefore headNamed heirTakesOver holderReleases fromHolder isEarly earlyRelease onRelease onYield failedSet yielded allHeld entered taken enteredOrYielded takes onReply remembered yieldedOrRemembered onInquire mustYield yieldedIf yieldedUpTo onFail onTransfer between first withoutFirst delivered isNumber isGiven setsShaped acceptedShaped modeShaped siteBlank siteShaped sitesShaped holderShaped arbiterShaped arbitersShaped entryShaped heldShaped inquiredShaped heirShaped queuedShaped everywhere numberShaped aboutShaped messageShaped messagesShaped tablesShaped wellShaped actor sitesNamed takenOff attempt allNumbers numbersFit limitCode padded accepted settled judged event fresh waitingCount insideUpTo lineOf printed
 printedExample = refl

@@ -1,127 +1,143 @@
--- Document 01, "One event": what an arbiter does with a request, a release or a yield.
+-- Document 01, "One event": what an arbiter does with a request, a release or a yield. The arbiter is the desk's own site, b.
 use Prim.Native.Nat.{ℕ, _+_, max}
 use mathlib.Core.Bool.{Bool, not, _&&_, cond}
 use mathlib.Core.List.{List, [], _∷_, _++_}
 use lib.Dec.{eqb}
+use Rattle.rig.specs.declared.Desk.{Desk}
 use Rattle.rig.specs.declared.Message.{Message}
 use Rattle.rig.specs.Messages.{reply, inquire, fail, transfer}
-use Rattle.model.specs.Tables.{at}
-use Rattle.model.specs.Priority.{Key, key, comesBefore, head}
-use Rattle.model.specs.State.{Tables, Effect, effect, sizeOf, clockOf, modeOf, withSite, arbiterOf, withArbiter, queuedOf, withQueued}
+use Rattle.model.specs.Tables.{put}
+use Rattle.model.specs.Priority.{Key, key, comesBefore, queuedKey, head}
+use Rattle.model.specs.Desk.{Effect, effect, queuedAt, withSite, withArbiter}
 
-abbrev pub grantOf : Tables → ℕ → ℕ
-grantOf t b = arbiterOf t b .grant
+abbrev pub grantOf : Desk → ℕ
+grantOf d = d .arbiter .grant
 
-abbrev pub holderOf : Tables → ℕ → ℕ
-holderOf t b = arbiterOf t b .holder
+abbrev pub holderOf : Desk → ℕ
+holderOf d = d .arbiter .holder
 
-abbrev pub holderKey : Tables → ℕ → Key
-holderKey t b = key (arbiterOf t b .seq) (holderOf t b)
+-- the holder's priority, and that of a queued site
+abbrev pub holderKey : Desk → Key
+holderKey d = key (d .arbiter .seq) (holderOf d)
 
-abbrev pub siteKey : Tables → ℕ → ℕ → Key
-siteKey t b k = key (queuedOf t b k) k
+abbrev pub siteKey : Desk → ℕ → Key
+siteKey d k = queuedKey (d .queued) k
 
--- the head of arbiter b's queue, 0 where it is empty
-unfoldable pub headOf : Tables → ℕ → ℕ
-headOf t b = head (at [] (t .queued) b) (sizeOf t)
+-- the head of the queue, 0 where it is empty
+unfoldable pub headOf : Desk → ℕ
+headOf d = head (d .queued) (d .size)
 
--- k holds arbiter b's permission with grant number g; it asked with sequence number n
-abbrev pub heldBy : Tables → ℕ → ℕ → ℕ → ℕ → Tables
-heldBy t b g k n = withArbiter t b (record { grant = g; holder = k; seq = n })
+-- the permission is held by k, with grant number g; it asked with sequence number n
+abbrev pub heldBy : Desk → ℕ → ℕ → ℕ → List ℕ → Desk
+heldBy d g k n q = withArbiter d (record { grant = g; holder = k; seq = n }) q
 
--- arbiter b has no holder
-abbrev pub free : Tables → ℕ → ℕ → Tables
-free t b g = heldBy t b g 0 0
+-- there is no holder
+abbrev pub free : Desk → ℕ → List ℕ → Desk
+free d g q = heldBy d g 0 0 q
+
+-- site k is queued with sequence number n
+abbrev pub withQueued : Desk → ℕ → ℕ → Desk
+withQueued d k n = withArbiter d (d .arbiter) (put (d .queued) k n)
+
+-- "off the queue", "leaves the queue"
+abbrev pub without : Desk → ℕ → List ℕ
+without d k = put (d .queued) k 0
 
 -- "Transfers and inquires carry the holder's g."
-abbrev pub transferOf : Tables → ℕ → ℕ → Message
-transferOf t b k = transfer b (holderOf t b) k (grantOf t b)
+abbrev pub transferOf : Desk → ℕ → Message
+transferOf d k = transfer (d .number) (holderOf d) k (grantOf d)
 
-abbrev pub inquireOf : Tables → ℕ → Message
-inquireOf t b = inquire b (holderOf t b) (grantOf t b)
+abbrev pub inquireOf : Desk → Message
+inquireOf d = inquire (d .number) (holderOf d) (grantOf d)
+
+abbrev pub failTo : Desk → ℕ → Message
+failTo d k = fail (d .number) k
 
 -- "if the queue isn't empty, transfer naming the head to k", the holder
-unfoldable pub nextHeir : Tables → ℕ → List Message
-nextHeir t b = cond (eqb (headOf t b) 0) [] (transferOf t b (headOf t b) ∷ [])
+unfoldable pub nextHeir : Desk → List Message
+nextHeir d = cond (eqb (headOf d) 0) [] (transferOf d (headOf d) ∷ [])
 
 -- "To grant k: off the queue if there, g + 1, holder k with the sequence number of the request being delivered, else the one
 -- queued, reply (about b, number g) to k; if the queue isn't empty, transfer naming the head to k."
-unfoldable pub granted : Tables → ℕ → ℕ → ℕ → Effect
-granted t b k n =
-    let u = withQueued (heldBy t b (grantOf t b + 1) k n) b k 0 in
-    effect u (reply b k b (grantOf u b) ∷ nextHeir u b)
+unfoldable pub granted : Desk → ℕ → ℕ → Effect
+granted d k n =
+    let u = heldBy d (grantOf d + 1) k n (without d k) in
+    effect u (reply (u .number) k (u .number) (grantOf u) ∷ nextHeir u)
 
 -- "the head, if any, is granted"
-unfoldable pub grantedHead : Tables → ℕ → Effect
-grantedHead t b = cond (eqb (headOf t b) 0) (effect t []) (granted t b (headOf t b) (queuedOf t b (headOf t b)))
+unfoldable pub grantedHead : Desk → Effect
+grantedHead d = cond (eqb (headOf d) 0) (effect d []) (granted d (headOf d) (queuedAt d (headOf d)))
 
 -- "b's clock becomes the larger of itself and the number"
-unfoldable pub clockRaised : Tables → ℕ → ℕ → Tables
-clockRaised t b n = withSite t b (record { mode = modeOf t b; clock = max (clockOf t b) n })
+unfoldable pub clockRaised : Desk → ℕ → Desk
+clockRaised d n = withSite d (record { mode = d .site .mode; clock = max (d .site .clock) n })
 
 -- "fail to the former head (before k was queued), if there was one other than k and it comes before the holder"
-unfoldable pub failFormer : Tables → ℕ → ℕ → ℕ → List Message
-failFormer t b k former =
-    cond (not (eqb former 0) && (not (eqb former k) && comesBefore (siteKey t b former) (holderKey t b))) (fail b former ∷ []) []
+unfoldable pub failFormer : Desk → ℕ → ℕ → List Message
+failFormer d k former =
+    cond (not (eqb former 0) && (not (eqb former k) && comesBefore (siteKey d former) (holderKey d))) (failTo d former ∷ []) []
 
 -- "then inquire to the holder if k comes before it, else fail to k"
-unfoldable pub inquireOrFail : Tables → ℕ → ℕ → Message
-inquireOrFail t b k = cond (comesBefore (siteKey t b k) (holderKey t b)) (inquireOf t b) (fail b k)
+unfoldable pub inquireOrFail : Desk → ℕ → Message
+inquireOrFail d k = cond (comesBefore (siteKey d k) (holderKey d)) (inquireOf d) (failTo d k)
 
 -- "If k isn't the head: fail to k. If it is: fail to the former head ...; transfer naming k to the holder; then inquire ...":
 -- k has been queued, former was the head before
-unfoldable pub answers : Tables → ℕ → ℕ → ℕ → List Message
-answers t b k former =
-    cond (eqb (headOf t b) k)
-    (failFormer t b k former ++ (transferOf t b k ∷ inquireOrFail t b k ∷ []))
-    (fail b k ∷ [])
+unfoldable pub answers : Desk → ℕ → ℕ → List Message
+answers d k former =
+    cond (eqb (headOf d) k)
+    (failFormer d k former ++ (transferOf d k ∷ inquireOrFail d k ∷ []))
+    (failTo d k ∷ [])
 
 -- "Otherwise k is queued."
-unfoldable pub queuedUp : Tables → ℕ → ℕ → ℕ → Effect
-queuedUp t b k n = let u = withQueued t b k n in effect u (answers u b k (headOf t b))
+unfoldable pub queuedUp : Desk → ℕ → ℕ → Effect
+queuedUp d k n = let u = withQueued d k n in effect u (answers u k (headOf d))
 
 -- "Request from k: ... If arbiter b has no holder, it grants k. Otherwise k is queued."
-unfoldable pub onRequest : Tables → ℕ → ℕ → ℕ → Effect
-onRequest t b k n =
-    let u = clockRaised t b n in
-    cond (eqb (holderOf u b) 0) (granted u b k n) (queuedUp u b k n)
+unfoldable pub onRequest : Desk → ℕ → ℕ → Effect
+onRequest d k n =
+    let u = clockRaised d n in
+    cond (eqb (holderOf u) 0) (granted u k n) (queuedUp u k n)
 
 -- "then an inquire if the head comes before it", the holder
-unfoldable pub inquireIfBefore : Tables → ℕ → ℕ → List Message
-inquireIfBefore t b h = cond (comesBefore (siteKey t b h) (holderKey t b)) (inquireOf t b ∷ []) []
+unfoldable pub inquireIfBefore : Desk → ℕ → List Message
+inquireIfBefore d h = cond (comesBefore (siteKey d h) (holderKey d)) (inquireOf d ∷ []) []
 
--- "with a queued heir, the heir leaves the queue, g + 1, the heir is holder, and if the queue isn't empty a transfer naming the
--- head goes to it, then an inquire if the head comes before it"
-unfoldable pub heirTakesOver : Tables → ℕ → ℕ → Effect
-heirTakesOver t b x =
-    let u = withQueued (heldBy t b (grantOf t b + 1) x (queuedOf t b x)) b x 0 in
-    let h = headOf u b in
-    effect u (cond (eqb h 0) [] (transferOf u b h ∷ inquireIfBefore u b h))
+-- "if the queue isn't empty a transfer naming the head goes to it, then an inquire if the head comes before it"
+unfoldable pub headNamed : Desk → List Message
+headNamed d = cond (eqb (headOf d) 0) [] (transferOf d (headOf d) ∷ inquireIfBefore d (headOf d))
 
--- "If n = g and k is the holder": the release of the holder, x the heir it names, 0 none
-unfoldable pub holderReleases : Tables → ℕ → ℕ → Effect
-holderReleases t b x =
-    cond (eqb x 0) (grantedHead (free t b (grantOf t b)) b)
-    (cond (eqb (queuedOf t b x) 0) (effect t []) (heirTakesOver t b x))
+-- "with a queued heir, the heir leaves the queue, g + 1, the heir is holder, and ..."
+unfoldable pub heirTakesOver : Desk → ℕ → Effect
+heirTakesOver d x = let u = heldBy d (grantOf d + 1) x (queuedAt d x) (without d x) in effect u (headNamed u)
+
+-- the release of the holder, x the heir it names, 0 none: "with no heir, the holder is cleared and the head, if any, is granted"
+unfoldable pub holderReleases : Desk → ℕ → Effect
+holderReleases d x =
+    cond (eqb x 0) (grantedHead (free d (grantOf d) (d .queued)))
+    (cond (eqb (queuedAt d x) 0) (effect d []) (heirTakesOver d x))
+
+-- "If n = g and k is the holder"
+unfoldable pub fromHolder : Desk → ℕ → ℕ → Bool
+fromHolder d k n = eqb n (grantOf d) && eqb k (holderOf d)
 
 -- "If n = g + 1, no heir is named and k is queued, the release was early"
-unfoldable pub isEarly : Tables → ℕ → ℕ → ℕ → ℕ → Bool
-isEarly t b k x n = eqb n (grantOf t b + 1) && (eqb x 0 && not (eqb (queuedOf t b k) 0))
+unfoldable pub isEarly : Desk → ℕ → ℕ → ℕ → Bool
+isEarly d k x n = eqb n (grantOf d + 1) && (eqb x 0 && not (eqb (queuedAt d k) 0))
 
 -- "k leaves the queue, g + 1, the holder is cleared, the head, if any, is granted."
-unfoldable pub earlyRelease : Tables → ℕ → ℕ → Effect
-earlyRelease t b k = grantedHead (free (withQueued t b k 0) b (grantOf t b + 1)) b
+unfoldable pub earlyRelease : Desk → ℕ → Effect
+earlyRelease d k = grantedHead (free d (grantOf d + 1) (without d k))
 
 -- "Release from k with number n", x the heir it names, 0 none. "Anything else changes nothing (a late release)."
-unfoldable pub onRelease : Tables → ℕ → ℕ → ℕ → ℕ → Effect
-onRelease t b k x n =
-    cond (eqb n (grantOf t b) && eqb k (holderOf t b)) (holderReleases t b x)
-    (cond (isEarly t b k x n) (earlyRelease t b k)
-    (effect t []))
+unfoldable pub onRelease : Desk → ℕ → ℕ → ℕ → Effect
+onRelease d k x n =
+    cond (fromHolder d k n) (holderReleases d x)
+    (cond (isEarly d k x n) (earlyRelease d k)
+    (effect d []))
 
 -- "Yield with number g from the holder: the holder goes back on the queue with its sequence number, the head is granted."
-unfoldable pub onYield : Tables → ℕ → ℕ → ℕ → Effect
-onYield t b k n =
-    cond (eqb n (grantOf t b) && eqb k (holderOf t b))
-    (grantedHead (free (withQueued t b k (arbiterOf t b .seq)) b (grantOf t b)) b)
-    (effect t [])
+unfoldable pub onYield : Desk → ℕ → ℕ → Effect
+onYield d k n =
+    cond (fromHolder d k n) (grantedHead (free d (grantOf d) (put (d .queued) k (d .arbiter .seq))))
+    (effect d [])

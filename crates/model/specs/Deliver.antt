@@ -4,9 +4,10 @@ use mathlib.Core.Bool.{Bool, _&&_, cond}
 use mathlib.Core.List.{List, [], _∷_}
 use mathlib.Core.Option.{Option, none, some}
 use lib.Dec.{eqb}
+use Rattle.rig.specs.declared.Desk.{Desk}
 use Rattle.rig.specs.declared.Message.{Message}
 use Rattle.rig.specs.Messages.{REQUEST, REPLY, RELEASE, INQUIRE, FAIL, YIELD, TRANSFER}
-use Rattle.model.specs.State.{Tables, Effect, effect}
+use Rattle.model.specs.Desk.{Effect, effect}
 use Rattle.model.specs.Arbiter.{onRequest, onRelease, onYield}
 use Rattle.model.specs.Site.{onReply, onInquire, onFail, onTransfer}
 
@@ -24,14 +25,14 @@ unfoldable pub withoutFirst : ℕ → ℕ → List Message → List Message
 withoutFirst a b [] = []
 withoutFirst a b (m ∷ ms) = cond (between a b m) ms (m ∷ withoutFirst a b ms)
 
--- each kind by its rule; "A message that fits no rule is taken off and does nothing else."
-unfoldable pub delivered : Tables → Message → Effect
-delivered t m =
-    cond (eqb (m .kind) REQUEST) (onRequest t (m .to) (m .from) (m .number))
-    (cond (eqb (m .kind) REPLY) (onReply t (m .to) (m .about) (m .number))
-    (cond (eqb (m .kind) RELEASE) (onRelease t (m .to) (m .from) (m .about) (m .number))
-    (cond (eqb (m .kind) INQUIRE) (onInquire t (m .to) (m .from) (m .number))
-    (cond (eqb (m .kind) FAIL) (onFail t (m .to))
-    (cond (eqb (m .kind) YIELD) (onYield t (m .to) (m .from) (m .number))
-    (cond (eqb (m .kind) TRANSFER) (onTransfer t (m .to) (m .from) (m .about) (m .number))
-    (effect t [])))))))
+-- what the receiver does with a message, each kind by its rule; "A message that fits no rule is taken off and does nothing else."
+unfoldable pub delivered : Desk → Message → Effect
+delivered d m =
+    cond (eqb (m .kind) REQUEST) (onRequest d (m .from) (m .number))
+    (cond (eqb (m .kind) REPLY) (onReply d (m .about) (m .number))
+    (cond (eqb (m .kind) RELEASE) (onRelease d (m .from) (m .about) (m .number))
+    (cond (eqb (m .kind) INQUIRE) (onInquire d (m .from) (m .number))
+    (cond (eqb (m .kind) FAIL) (onFail d)
+    (cond (eqb (m .kind) YIELD) (onYield d (m .from) (m .number))
+    (cond (eqb (m .kind) TRANSFER) (onTransfer d (m .from) (m .about) (m .number))
+    (effect d [])))))))

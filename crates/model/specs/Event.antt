@@ -9,8 +9,8 @@ use Rattle.rig.specs.declared.Message.{Message}
 use Rattle.rig.specs.declared.Event.{Event}
 use Rattle.rig.specs.declared.Event.the-variants.{Ask, Leave, Deliver}
 use Rattle.rig.specs.Limits.{messageLimit, eventLimit}
-use Rattle.model.specs.State.{Tables, Effect, inRange, modeOf, clockOf, isResting, isInside, withAccepted}
-use Rattle.model.specs.Arbiter.{grantOf}
+use Rattle.model.specs.State.{Tables, inRange, modeOf, isResting, isInside, deskOf, withDesk}
+use Rattle.model.specs.Desk.{Effect}
 use Rattle.model.specs.Ask.{asked}
 use Rattle.model.specs.Leave.{left}
 use Rattle.model.specs.Deliver.{first, withoutFirst, delivered}
@@ -28,21 +28,21 @@ sitesNamed t (Ask s) = inRange t s
 sitesNamed t (Leave s) = inRange t s
 sitesNamed t (Deliver a b) = inRange t a && inRange t b
 
--- What the rules make of an event: refused with 5, 6 or 7, or an effect beside the messages that stay under way.
+-- What the rules make of an event: refused with 5, 6 or 7, or an effect at its site, beside the messages that stay under way.
 pub data Attempt : Type 0 where
   refused : ℕ → Attempt
   possible : Effect → List Message → Attempt
 
 -- "7 for a delivery where nothing is under way from a to b"
-unfoldable pub takenOff : Tables → Option Message → List Message → Attempt
-takenOff t none rest = refused 7
-takenOff t (some m) rest = possible (delivered t m) rest
+unfoldable pub takenOff : Tables → ℕ → Option Message → List Message → Attempt
+takenOff t b none rest = refused 7
+takenOff t b (some m) rest = possible (delivered (deskOf t b) m) rest
 
 -- "Then 5 for an ask by a site not at rest, 6 for a leave by one not inside"
 unfoldable pub attempt : Tables → List Message → Event → Attempt
-attempt t ms (Ask s) = cond (isResting (modeOf t s)) (possible (asked t s) ms) (refused 5)
-attempt t ms (Leave s) = cond (isInside (modeOf t s)) (possible (left t s) ms) (refused 6)
-attempt t ms (Deliver a b) = takenOff t (first a b ms) (withoutFirst a b ms)
+attempt t ms (Ask s) = cond (isResting (modeOf t s)) (possible (asked (deskOf t s)) ms) (refused 5)
+attempt t ms (Leave s) = cond (isInside (modeOf t s)) (possible (left (deskOf t s)) ms) (refused 6)
+attempt t ms (Deliver a b) = takenOff t b (first a b ms) (withoutFirst a b ms)
 
 unfoldable pub allNumbers : List Message → Bool
 allNumbers [] = true
@@ -50,14 +50,14 @@ allNumbers (m ∷ ms) = isNumber (m .number) && allNumbers ms
 
 -- The numbers that an event makes are its site's clock, which is also the sequence number of an ask, its arbiter's grant number, and
 -- those of the messages sent: none passes 2,000,000.
-unfoldable pub numbersFit : ℕ → Effect → Bool
-numbersFit s e = isNumber (clockOf (e .tables) s) && (isNumber (grantOf (e .tables) s) && allNumbers (e .sent))
+unfoldable pub numbersFit : Effect → Bool
+numbersFit e = isNumber (e .desk .site .clock) && (isNumber (e .desk .arbiter .grant) && allNumbers (e .sent))
 
 -- "Then 9 if 1,000,000 events have been accepted or a number would pass 2,000,000. Last, 8 if the list would pass 1,024 after the
 -- event."
-unfoldable pub limitCode : Tables → ℕ → Effect → List Message → ℕ
-limitCode t s e rest =
-    cond (leb eventLimit (t .rig .accepted) || not (numbersFit s e)) 9
+unfoldable pub limitCode : Tables → Effect → List Message → ℕ
+limitCode t e rest =
+    cond (leb eventLimit (t .rig .accepted) || not (numbersFit e)) 9
     (cond (ltb messageLimit (length rest + length (e .sent))) 8
     0)
 
@@ -85,11 +85,11 @@ blankMessage = record { kind = 0; from = 0; to = 0; about = 0; number = 0 }
 unfoldable pub padded : List Message → List Message
 padded ms = ms ++ replicate (messageLimit - length ms) blankMessage
 
--- the state after an accepted event
-unfoldable pub accepted : Effect → List Message → Stored
-accepted e rest =
+-- the state after an accepted event at site k
+unfoldable pub accepted : Tables → ℕ → Effect → List Message → Stored
+accepted t k e rest =
     let ms = rest ++ e .sent in
-    record { tables = withAccepted (e .tables) (e .tables .rig .accepted + 1); list = padded ms; count = length ms }
+    record { tables = withDesk t k (e .desk) (t .rig .accepted + 1); list = padded ms; count = length ms }
 
 -- "Nothing of the state or a lent buffer changes then", with a code other than 0
 unfoldable pub settled : Stored → ℕ → Stored → Answer
@@ -97,7 +97,7 @@ settled s c u = answer c (cond (eqb c 0) u s)
 
 unfoldable pub judged : Stored → ℕ → Attempt → Answer
 judged s k (refused c) = answer c s
-judged s k (possible e rest) = settled s (limitCode (s .tables) k e rest) (accepted e rest)
+judged s k (possible e rest) = settled s (limitCode (s .tables) e rest) (accepted (s .tables) k e rest)
 
 -- "An event. 13 first if a lent list of messages is not 1,024 entries long ... 10 if the state is misshapen ... 4 if a named site is
 -- outside 1 to N. Then ..."

@@ -2,6 +2,7 @@ pub mod Tables
 pub mod Sets
 pub mod Setup
 pub mod State
+pub mod Desk
 pub mod Priority
 pub mod Ask
 pub mod Leave

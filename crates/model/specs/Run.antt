@@ -11,8 +11,7 @@ use Rattle.rig.specs.Limits.{messageLimit}
 use Rattle.rig.specs.Messages.{REPLY, RELEASE, YIELD}
 use Rattle.model.specs.Tables.{any, count}
 use Rattle.model.specs.Setup.{setupCode}
-use Rattle.model.specs.State.{Tables, sizeOf, modeOf, isInside, waits, heldOf, freshTables}
-use Rattle.model.specs.Arbiter.{holderOf}
+use Rattle.model.specs.State.{Tables, sizeOf, modeOf, isInside, isWaiting, arbiterOf, heldOf, freshTables}
 use Rattle.model.specs.Event.{Stored, underWay, event}
 
 -- "The run starts from the fresh state of sets that setup passes ... with nothing under way": whatever the lent list holds
@@ -31,7 +30,7 @@ tally p (m ∷ ms) = cond (p m) (suc (tally p ms)) (tally p ms)
 
 -- "Places of arbiter j's permission, counted together: free, if j has no holder;"
 unfoldable pub freeAt : Tables → ℕ → ℕ
-freeAt t j = cond (eqb (holderOf t j) 0) 1 0
+freeAt t j = cond (eqb (arbiterOf t j .holder) 0) 1 0
 
 -- "travelling out, each reply about j under way;"
 unfoldable pub isOut : ℕ → Message → Bool
@@ -43,7 +42,7 @@ heldAt t j = count (λ k. not (eqb (heldOf t k j) 0)) (sizeOf t)
 
 -- "travelling back, each yield to j and each release to j with about 0 under way. A release naming an heir carries none."
 unfoldable pub isBack : ℕ → Message → Bool
-isBack j m = eqb (m .to) j && (eqb (m .kind) YIELD || (eqb (m .kind) RELEASE && eqb (m .about) 0))
+isBack j m = (eqb (m .kind) YIELD || (eqb (m .kind) RELEASE && eqb (m .about) 0)) && eqb (m .to) j
 
 unfoldable pub places : Stored → ℕ → ℕ
 places s j = freeAt (s .tables) j + tally (isOut j) (underWay s) + heldAt (s .tables) j + tally (isBack j) (underWay s)
@@ -53,7 +52,7 @@ unfoldable pub insideCount : Tables → ℕ
 insideCount t = count (λ k. isInside (modeOf t k)) (sizeOf t)
 
 unfoldable pub waitingCount : Tables → ℕ
-waitingCount t = count (waits t) (sizeOf t)
+waitingCount t = count (λ k. isWaiting (modeOf t k)) (sizeOf t)
 
 -- "A rig is stuck if no message is under way, no site is inside and a site is waiting."
 unfoldable pub stuck : Stored → Bool

@@ -44,16 +44,24 @@ restingSite = record { mode = Rest; clock = 0 }
 abbrev pub freeArbiter : Arbiter
 freeArbiter = record { grant = 0; holder = 0; seq = 0 }
 
--- "Fresh: all but N and the sets zero, at rest, nothing under way." and "all past N is 0"
-unfoldable pub freshRig : ℕ → List ℕ → Rig
-freshRig n sets = record {
+-- "Entries past N are not read", and "all past N is 0"
+unfoldable pub keptSets : ℕ → List ℕ → List ℕ
+keptSets n sets = take n sets ++ replicate (siteLimit - n) 0
+
+-- a rig in which nothing has happened
+abbrev pub restingRig : ℕ → List ℕ → Rig
+restingRig n sets = record {
   size = n;
-  sets = take n sets ++ replicate (siteLimit - n) 0;
+  sets = sets;
   sites = replicate siteLimit restingSite;
   arbiters = replicate siteLimit freeArbiter;
   accepted = 0;
 }
 
+-- "Fresh: all but N and the sets zero, at rest, nothing under way."
+unfoldable pub freshRig : ℕ → List ℕ → Rig
+freshRig n sets = restingRig n (keptSets n sets)
+
 -- what a refused setup answers beside its code: a rig without sites
 unfoldable pub noRig : Rig
-noRig = freshRig 0 (replicate siteLimit 0)
+noRig = restingRig 0 (replicate siteLimit 0)

@@ -17,7 +17,7 @@ use Rattle.rig.specs.Limits.{siteLimit, messageLimit, eventLimit, numberLimit}
 use Rattle.rig.specs.Messages.{REQUEST, REPLY, RELEASE, INQUIRE, FAIL, YIELD, TRANSFER}
 use Rattle.model.specs.Tables.{at, all}
 use Rattle.model.specs.Setup.{setupCode}
-use Rattle.model.specs.State.{Tables, sizeOf, inRange, hasMember, siteOf, modeOf, isResting, clockOf, arbiterOf, heldOf, heirOf, inquiredOf, queuedOf}
+use Rattle.model.specs.State.{Tables, sizeOf, inRange, hasMember, siteOf, modeOf, isResting, arbiterOf, heldOf, heirOf, inquiredOf, queuedOf}
 
 -- "Clocks, sequence and grant numbers: 0 to 2,000,000."
 unfoldable pub isNumber : ℕ → Bool
@@ -49,7 +49,7 @@ unfoldable pub siteBlank : Site → Bool
 siteBlank s = eqb (s .clock) 0 && isResting (s .mode)
 
 unfoldable pub siteShaped : Tables → ℕ → Bool
-siteShaped t k = cond (inRange t k) (isNumber (clockOf t k) && modeShaped (modeOf t k)) (siteBlank (siteOf t k))
+siteShaped t k = cond (inRange t k) (isNumber (siteOf t k .clock) && modeShaped (modeOf t k)) (siteBlank (siteOf t k))
 
 unfoldable pub sitesShaped : Tables → Bool
 sitesShaped t = all (siteShaped t) siteLimit

@@ -3,86 +3,88 @@ use Prim.Native.Nat.{ℕ, zero, suc}
 use mathlib.Core.Bool.{Bool, true, not, _&&_, _||_, cond}
 use mathlib.Core.List.{List, [], _∷_, _++_}
 use lib.Dec.{eqb}
+use Rattle.rig.specs.declared.Desk.{Desk}
 use Rattle.rig.specs.declared.Mode.the-variants.{Waiting, Inside}
 use Rattle.rig.specs.Limits.{blankRow}
 use Rattle.rig.specs.Messages.{yield}
-use Rattle.model.specs.Tables.{put, putCell, all}
-use Rattle.model.specs.State.{Tables, Effect, effect, sizeOf, hasMember, modeOf, seqIn, waits, hasFailed, heldOf, inquiredOf, withMode, withEntries, withoutEntry}
+use Rattle.model.specs.Tables.{put, all}
+use Rattle.model.specs.State.{seqIn}
+use Rattle.model.specs.Desk.{Effect, effect, has, waits, hasFailed, heldFor, inquiredFor, withMode, withEntries, withoutEntry}
 
 -- "failed is set", of a waiting site
-unfoldable pub failedSet : Tables → ℕ → Tables
-failedSet t b = withMode t b (Waiting (seqIn (modeOf t b)) true)
+unfoldable pub failedSet : Desk → Desk
+failedSet d = withMode d (Waiting (seqIn (d .site .mode)) true)
 
 -- "To yield j: failed is set, a yield with the held number goes to j, and its three entries are cleared."
-unfoldable pub yielded : Tables → ℕ → ℕ → Effect
-yielded t b j = effect (withoutEntry (failedSet t b) b j) (yield b j (heldOf t b j) ∷ [])
+unfoldable pub yielded : Desk → ℕ → Effect
+yielded d j = effect (withoutEntry (failedSet d) j) (yield (d .number) j (heldFor d j) ∷ [])
 
 -- "all members are held"
-unfoldable pub allHeld : Tables → ℕ → Bool
-allHeld t b = all (λ j. not (hasMember t b j) || not (eqb (heldOf t b j) 0)) (sizeOf t)
+unfoldable pub allHeld : Desk → Bool
+allHeld d = all (λ j. not (has d j) || not (eqb (heldFor d j) 0)) (d .size)
 
 -- "the site is inside, and its sequence number, failed mark and all remembered inquires become 0"
-unfoldable pub entered : Tables → ℕ → Tables
-entered t b = withMode (withEntries t (t .held) (t .heir) (put (t .inquired) b blankRow)) b Inside
+unfoldable pub entered : Desk → Desk
+entered d = withMode (withEntries d (d .held) (d .heir) blankRow) Inside
 
 -- "the number is held, and a remembered inquire of another number is forgotten"
-unfoldable pub taken : Tables → ℕ → ℕ → ℕ → Tables
-taken t b j n =
-    withEntries t (putCell (t .held) b j n) (t .heir)
-    (putCell (t .inquired) b j (cond (eqb (inquiredOf t b j) n) n 0))
+unfoldable pub taken : Desk → ℕ → ℕ → Desk
+taken d j n = withEntries d (put (d .held) j n) (d .heir) (put (d .inquired) j (cond (eqb (inquiredFor d j) n) n 0))
 
 -- "If all members are held the site is inside ... Otherwise, if failed and an inquire for j is remembered, it yields j."
-unfoldable pub enteredOrYielded : Tables → ℕ → ℕ → Effect
-enteredOrYielded t b j =
-    cond (allHeld t b) (effect (entered t b) [])
-    (cond (hasFailed t b && not (eqb (inquiredOf t b j) 0)) (yielded t b j)
-    (effect t []))
+unfoldable pub enteredOrYielded : Desk → ℕ → Effect
+enteredOrYielded d j =
+    cond (allHeld d) (effect (entered d) [])
+    (cond (hasFailed d && not (eqb (inquiredFor d j) 0)) (yielded d j)
+    (effect d []))
 
--- "Reply about j, to a waiting site with member j not held"
-unfoldable pub onReply : Tables → ℕ → ℕ → ℕ → Effect
-onReply t b j n =
-    cond (waits t b && (hasMember t b j && eqb (heldOf t b j) 0))
-    (enteredOrYielded (taken t b j n) b j)
-    (effect t [])
+-- "to a waiting site with member j not held"
+unfoldable pub takes : Desk → ℕ → Bool
+takes d j = waits d && (has d j && eqb (heldFor d j) 0)
+
+-- "Reply about j", with number n
+unfoldable pub onReply : Desk → ℕ → ℕ → Effect
+onReply d j n = cond (takes d j) (enteredOrYielded (taken d j n) j) (effect d [])
 
 -- "remembers it", in place of any older one
-unfoldable pub remembered : Tables → ℕ → ℕ → ℕ → Tables
-remembered t b j n = withEntries t (t .held) (t .heir) (putCell (t .inquired) b j n)
+unfoldable pub remembered : Desk → ℕ → ℕ → Desk
+remembered d j n = withEntries d (d .held) (d .heir) (put (d .inquired) j n)
 
 -- "if j is held with that number, it yields j when failed, else remembers it. If j is not held, it remembers it in place of any
 -- older one."
-unfoldable pub yieldedOrRemembered : Tables → ℕ → ℕ → ℕ → Effect
-yieldedOrRemembered t b j n =
-    cond (eqb (heldOf t b j) 0) (effect (remembered t b j n) [])
-    (cond (eqb n (heldOf t b j))
-    (cond (hasFailed t b) (yielded t b j) (effect (remembered t b j n) []))
-    (effect t []))
+unfoldable pub yieldedOrRemembered : Desk → ℕ → ℕ → Effect
+yieldedOrRemembered d j n =
+    cond (eqb (heldFor d j) 0) (effect (remembered d j n) [])
+    (cond (eqb n (heldFor d j))
+    (cond (hasFailed d) (yielded d j) (effect (remembered d j n) []))
+    (effect d []))
 
 -- "Inquire to a waiting site"
-unfoldable pub onInquire : Tables → ℕ → ℕ → ℕ → Effect
-onInquire t b j n = cond (waits t b) (yieldedOrRemembered t b j n) (effect t [])
+unfoldable pub onInquire : Desk → ℕ → ℕ → Effect
+onInquire d j n = cond (waits d) (yieldedOrRemembered d j n) (effect d [])
 
--- "every held member with a remembered inquire is yielded": member j, where it is such a one
-unfoldable pub yieldedIf : Tables → ℕ → ℕ → Effect
-yieldedIf t b j =
-    cond (hasMember t b j && (not (eqb (heldOf t b j) 0) && not (eqb (inquiredOf t b j) 0)))
-    (yielded t b j)
-    (effect t [])
+-- "every held member with a remembered inquire": whether member j is such a one
+unfoldable pub mustYield : Desk → ℕ → Bool
+mustYield d j = has d j && (not (eqb (heldFor d j) 0) && not (eqb (inquiredFor d j) 0))
+
+-- "is yielded", if it is
+unfoldable pub yieldedIf : Desk → ℕ → Effect
+yieldedIf d j = cond (mustYield d j) (yielded d j) (effect d [])
 
 -- one effect after another
 abbrev pub andThen : Effect → Effect → Effect
-andThen d e = effect (e .tables) (d .sent ++ e .sent)
+andThen d e = effect (e .desk) (d .sent ++ e .sent)
 
 -- "ascending": of the sites 1 to n
-unfoldable pub yieldedUpTo : Tables → ℕ → ℕ → Effect
-yieldedUpTo t b zero = effect t []
-yieldedUpTo t b (suc i) = let d = yieldedUpTo t b i in andThen d (yieldedIf (d .tables) b (suc i))
+unfoldable pub yieldedUpTo : Desk → ℕ → Effect
+yieldedUpTo d zero = effect d []
+yieldedUpTo d (suc i) = let e = yieldedUpTo d i in andThen e (yieldedIf (e .desk) (suc i))
 
 -- "Fail to a waiting site: failed is set; every held member with a remembered inquire is yielded, ascending."
-unfoldable pub onFail : Tables → ℕ → Effect
-onFail t b = cond (waits t b) (yieldedUpTo (failedSet t b) b (sizeOf t)) (effect t [])
+unfoldable pub onFail : Desk → Effect
+onFail d = cond (waits d) (yieldedUpTo (failedSet d) (d .size)) (effect d [])
 
 -- "Transfer from j whose number the site holds for j: the heir of j becomes the named site, in place of any older one."
-unfoldable pub onTransfer : Tables → ℕ → ℕ → ℕ → ℕ → Effect
-onTransfer t b j x n =
-    cond (eqb n (heldOf t b j)) (effect (withEntries t (t .held) (putCell (t .heir) b j x) (t .inquired)) []) (effect t [])
+unfoldable pub onTransfer : Desk → ℕ → ℕ → ℕ → Effect
+onTransfer d j x n =
+    cond (eqb n (heldFor d j)) (effect (withEntries d (d .held) (put (d .heir) j x) (d .inquired)) []) (effect d [])

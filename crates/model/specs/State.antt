@@ -1,16 +1,16 @@
--- The state: a rig with its four tables, and the messages under way.
-use Prim.Native.Nat.{ℕ, suc}
+-- The state of a rig: its tables, and what one site has of them.
+use Prim.Native.Nat.{ℕ}
 use mathlib.Core.Bool.{Bool, true, false, _&&_}
 use mathlib.Core.List.{List, []}
 use lib.Dec.{leb}
 use Rattle.rig.specs.declared.Rig.{Rig}
 use Rattle.rig.specs.declared.Site.{Site}
 use Rattle.rig.specs.declared.Arbiter.{Arbiter}
-use Rattle.rig.specs.declared.Message.{Message}
+use Rattle.rig.specs.declared.Desk.{Desk}
 use Rattle.rig.specs.declared.Mode.{Mode}
 use Rattle.rig.specs.declared.Mode.the-variants.{Rest, Waiting, Inside}
-use Rattle.rig.specs.Limits.{blankRow, blankTable}
-use Rattle.model.specs.Tables.{at, put, cell, putCell}
+use Rattle.rig.specs.Limits.{blankTable}
+use Rattle.model.specs.Tables.{at, put, cell}
 use Rattle.model.specs.Sets.{member}
 use Rattle.model.specs.Setup.{restingSite, freeArbiter, freshRig}
 
@@ -24,38 +24,11 @@ pub record Tables : Type 0 where
   pub inquired : List (List ℕ)
   pub queued : List (List ℕ)
 
--- What an event makes: the next tables, and the messages sent, in order.
-pub record Effect : Type 0 where
-  pub tables : Tables
-  pub sent : List Message
-
-abbrev pub effect : Tables → List Message → Effect
-effect t ms = record { tables = t; sent = ms }
-
 -- "Fresh: all but N and the sets zero, at rest": the tables of setup's sets
 unfoldable pub freshTables : ℕ → List ℕ → Tables
 freshTables n sets = record { rig = freshRig n sets; held = blankTable; heir = blankTable; inquired = blankTable; queued = blankTable }
 
--- Reading
-
-abbrev pub sizeOf : Tables → ℕ
-sizeOf t = t .rig .size
-
-abbrev pub inRange : Tables → ℕ → Bool
-inRange t k = leb 1 k && leb k (sizeOf t)
-
--- arbiter j is a member of the request set of site k
-abbrev pub hasMember : Tables → ℕ → ℕ → Bool
-hasMember t k j = member (at 0 (t .rig .sets) k) j
-
-abbrev pub siteOf : Tables → ℕ → Site
-siteOf t k = at restingSite (t .rig .sites) k
-
-abbrev pub modeOf : Tables → ℕ → Mode
-modeOf t k = siteOf t k .mode
-
-abbrev pub clockOf : Tables → ℕ → ℕ
-clockOf t k = siteOf t k .clock
+-- What a mode says
 
 abbrev pub isResting : Mode → Bool
 isResting Rest = true
@@ -83,15 +56,31 @@ failedIn Rest = false
 failedIn (Waiting s f) = f
 failedIn Inside = false
 
-abbrev pub waits : Tables → ℕ → Bool
-waits t k = isWaiting (modeOf t k)
+-- Reading the tables
 
-abbrev pub hasFailed : Tables → ℕ → Bool
-hasFailed t k = failedIn (modeOf t k)
+abbrev pub sizeOf : Tables → ℕ
+sizeOf t = t .rig .size
+
+abbrev pub inRange : Tables → ℕ → Bool
+inRange t k = leb 1 k && leb k (sizeOf t)
+
+abbrev pub membersOf : Tables → ℕ → ℕ
+membersOf t k = at 0 (t .rig .sets) k
+
+-- arbiter j is a member of the request set of site k
+abbrev pub hasMember : Tables → ℕ → ℕ → Bool
+hasMember t k j = member (membersOf t k) j
+
+abbrev pub siteOf : Tables → ℕ → Site
+siteOf t k = at restingSite (t .rig .sites) k
+
+abbrev pub modeOf : Tables → ℕ → Mode
+modeOf t k = siteOf t k .mode
 
 abbrev pub arbiterOf : Tables → ℕ → Arbiter
 arbiterOf t j = at freeArbiter (t .rig .arbiters) j
 
+-- what site k has for arbiter j, and what arbiter j has of site k
 abbrev pub heldOf : Tables → ℕ → ℕ → ℕ
 heldOf t k j = cell (t .held) k j
 
@@ -104,36 +93,34 @@ inquiredOf t k j = cell (t .inquired) k j
 abbrev pub queuedOf : Tables → ℕ → ℕ → ℕ
 queuedOf t j k = cell (t .queued) j k
 
--- Writing
+-- One site's part
 
-abbrev pub withRig : Tables → Rig → Tables
-withRig t r = record { rig = r; held = t .held; heir = t .heir; inquired = t .inquired; queued = t .queued }
+-- all that site s has
+unfoldable pub deskOf : Tables → ℕ → Desk
+deskOf t s = record {
+  size = sizeOf t;
+  number = s;
+  members = membersOf t s;
+  site = siteOf t s;
+  arbiter = arbiterOf t s;
+  held = at [] (t .held) s;
+  heir = at [] (t .heir) s;
+  inquired = at [] (t .inquired) s;
+  queued = at [] (t .queued) s;
+}
 
--- the three entries of the sites' tables
-abbrev pub withEntries : Tables → List (List ℕ) → List (List ℕ) → List (List ℕ) → Tables
-withEntries t he hr iq = record { rig = t .rig; held = he; heir = hr; inquired = iq; queued = t .queued }
-
-abbrev pub withSite : Tables → ℕ → Site → Tables
-withSite t k s = withRig t (record { size = t .rig .size; sets = t .rig .sets; sites = put (t .rig .sites) k s; arbiters = t .rig .arbiters; accepted = t .rig .accepted })
-
-abbrev pub withMode : Tables → ℕ → Mode → Tables
-withMode t k m = withSite t k (record { mode = m; clock = clockOf t k })
-
-abbrev pub withArbiter : Tables → ℕ → Arbiter → Tables
-withArbiter t j a = withRig t (record { size = t .rig .size; sets = t .rig .sets; sites = t .rig .sites; arbiters = put (t .rig .arbiters) j a; accepted = t .rig .accepted })
-
-abbrev pub withAccepted : Tables → ℕ → Tables
-withAccepted t n = withRig t (record { size = t .rig .size; sets = t .rig .sets; sites = t .rig .sites; arbiters = t .rig .arbiters; accepted = n })
-
--- site k is queued at arbiter j with number n; n is 0 where it leaves the queue
-abbrev pub withQueued : Tables → ℕ → ℕ → ℕ → Tables
-withQueued t j k n = record { rig = t .rig; held = t .held; heir = t .heir; inquired = t .inquired; queued = putCell (t .queued) j k n }
-
--- "its three entries are cleared", of member j
-abbrev pub withoutEntry : Tables → ℕ → ℕ → Tables
-withoutEntry t k j = withEntries t (putCell (t .held) k j 0) (putCell (t .heir) k j 0) (putCell (t .inquired) k j 0)
-
--- "held, heirs and remembered inquires are cleared", "All three entries of every member, held or not, are cleared":
--- the whole row, since the entries of the other sites are 0
-abbrev pub withoutEntries : Tables → ℕ → Tables
-withoutEntries t k = withEntries t (put (t .held) k blankRow) (put (t .heir) k blankRow) (put (t .inquired) k blankRow)
+-- the tables once site s has the desk d, and a number of accepted events
+unfoldable pub withDesk : Tables → ℕ → Desk → ℕ → Tables
+withDesk t s d n = record {
+  rig = record {
+    size = t .rig .size;
+    sets = t .rig .sets;
+    sites = put (t .rig .sites) s (d .site);
+    arbiters = put (t .rig .arbiters) s (d .arbiter);
+    accepted = n;
+  };
+  held = put (t .held) s (d .held);
+  heir = put (t .heir) s (d .heir);
+  inquired = put (t .inquired) s (d .inquired);
+  queued = put (t .queued) s (d .queued);
+}

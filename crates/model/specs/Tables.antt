@@ -19,9 +19,6 @@ module _ {A : Type 0} where
 unfoldable pub cell : List (List ℕ) → ℕ → ℕ → ℕ
 cell t k j = at 0 (at [] t k) j
 
-unfoldable pub putCell : List (List ℕ) → ℕ → ℕ → ℕ → List (List ℕ)
-putCell t k j v = put t k (put (at [] t k) j v)
-
 -- of the sites 1 to n: all pass, one passes, how many pass
 unfoldable pub all : (ℕ → Bool) → ℕ → Bool
 all p zero = true

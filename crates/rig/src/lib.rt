@@ -32,6 +32,21 @@ pub struct Rig {
     pub accepted: u64,
 }
 
+// All that one site has: the number of sites N, its own number and request set, itself as a site and as an arbiter, its entries
+// for each arbiter (the grant number held, the heir, the remembered inquire's number; 0 none), and the sequence number queued of
+// each site (0 none). What a site does depends on this and on the message it gets, and on nothing else.
+pub struct Desk {
+    pub size: u64,
+    pub number: u64,
+    pub members: u64,
+    pub site: Site,
+    pub arbiter: Arbiter,
+    pub held: [u64; Rig::SITES],
+    pub heir: [u64; Rig::SITES],
+    pub inquired: [u64; Rig::SITES],
+    pub queued: [u64; Rig::SITES],
+}
+
 // A table of numbers. `held`, `heir` and `inquired` have a row for each site and a column for each arbiter;
 // `queued` has a row for each arbiter and a column for each site.
 pub type Table = [[u64; Rig::SITES]; Rig::SITES];
@@ -53,8 +68,11 @@ pub enum Event {
 
 impl Rig {
     pub const SITES: usize = 31;
+
     pub const MESSAGES: usize = 1_024;
+
     pub const EVENTS: u64 = 1_000_000;
+
     pub const NUMBERS: u64 = 2_000_000;
 
     // A table in which nothing is held, inherited, inquired or queued.
@@ -67,54 +85,102 @@ impl Rig {
 
 impl Message {
     pub const REQUEST: u64 = 1;
+
     pub const REPLY: u64 = 2;
+
     pub const RELEASE: u64 = 3;
+
     pub const INQUIRE: u64 = 4;
+
     pub const FAIL: u64 = 5;
+
     pub const YIELD: u64 = 6;
+
     pub const TRANSFER: u64 = 7;
 
     pub fn request(from: u64, to: u64, seq: u64) -> Message
         ensures { λ r. ⌜ r ≡ request from to seq ⌝ }
     {
-        Message { kind: Message::REQUEST, from: from, to: to, about: 0, number: seq }
+        Message {
+            kind: Message::REQUEST,
+            from: from,
+            to: to,
+            about: 0,
+            number: seq,
+        }
     }
 
     pub fn reply(from: u64, to: u64, arbiter: u64, grant: u64) -> Message
         ensures { λ r. ⌜ r ≡ reply from to arbiter grant ⌝ }
     {
-        Message { kind: Message::REPLY, from: from, to: to, about: arbiter, number: grant }
+        Message {
+            kind: Message::REPLY,
+            from: from,
+            to: to,
+            about: arbiter,
+            number: grant,
+        }
     }
 
     // The heir is 0 where the permission goes back to the arbiter.
     pub fn release(from: u64, to: u64, heir: u64, grant: u64) -> Message
         ensures { λ r. ⌜ r ≡ release from to heir grant ⌝ }
     {
-        Message { kind: Message::RELEASE, from: from, to: to, about: heir, number: grant }
+        Message {
+            kind: Message::RELEASE,
+            from: from,
+            to: to,
+            about: heir,
+            number: grant,
+        }
     }
 
     pub fn inquire(from: u64, to: u64, grant: u64) -> Message
         ensures { λ r. ⌜ r ≡ inquire from to grant ⌝ }
     {
-        Message { kind: Message::INQUIRE, from: from, to: to, about: 0, number: grant }
+        Message {
+            kind: Message::INQUIRE,
+            from: from,
+            to: to,
+            about: 0,
+            number: grant,
+        }
     }
 
     pub fn fail(from: u64, to: u64) -> Message
         ensures { λ r. ⌜ r ≡ fail from to ⌝ }
     {
-        Message { kind: Message::FAIL, from: from, to: to, about: 0, number: 0 }
+        Message {
+            kind: Message::FAIL,
+            from: from,
+            to: to,
+            about: 0,
+            number: 0,
+        }
     }
 
     // `yield` may be a reserved word of the host languages that read this file, so the function says what it does.
     pub fn yielding(from: u64, to: u64, grant: u64) -> Message
         ensures { λ r. ⌜ r ≡ yield from to grant ⌝ }
     {
-        Message { kind: Message::YIELD, from: from, to: to, about: 0, number: grant }
+        Message {
+            kind: Message::YIELD,
+            from: from,
+            to: to,
+            about: 0,
+            number: grant,
+        }
     }
 
     pub fn transfer(from: u64, to: u64, heir: u64, grant: u64) -> Message
         ensures { λ r. ⌜ r ≡ transfer from to heir grant ⌝ }
     {
-        Message { kind: Message::TRANSFER, from: from, to: to, about: heir, number: grant }
+        Message {
+            kind: Message::TRANSFER,
+            from: from,
+            to: to,
+            about: heir,
+            number: grant,
+        }
     }
 }

@@ -1,0 +1,73 @@
+-- `all_meet`: each set passed so far meets each earlier one.
+use Prim.Native.Nat.{suc, _+_, _≤_, _-_}
+use mathlib.Core.Path.{_≡_, sym, _∙_}
+use mathlib.Core.Bool.{true}
+use native.Mathlib.Omega.{arith}
+use native.Mathlib.Nat.{le-antisymm}
+use native.Mathlib.Numerals.{add-one}
+use borrow.Author.Needs.{needs}
+use borrow.Author.Tests.{not-true, not-false}
+use Rattle.model.specs.Tables.{all}
+use Rattle.model.specs.Setup.{meetsEarlier, allMeet}
+use Rattle.model.proofs.Tables.{all-fails, all-more}
+use Rattle.setup.proofs.all_meet.Statement.{statement}
+use Rattle.setup.proofs.all_meet.Tie as tie
+use Rattle.setup.proofs.all_meet.Reads as reads
+use Rattle.setup.proofs.all_meet.Lts as lts
+use Rattle.setup.proofs.meets_earlier.Reads as meets-earlier-reads
+
+abbrev Inv-loop : tie.InvT-loop
+Inv-loop size sets k₀ k = (k ≤ size) × (all (meetsEarlier size sets) k ≡ true)
+
+abbrev μ-loop : tie.MeasureT-loop
+μ-loop size sets k₀ k = size - k
+
+-- src/lib.rt:59:5
+loop-holds : tie.Need-loop-holds Inv-loop μ-loop
+unfolding all
+loop-holds c = search needs
+
+-- src/lib.rt:60:13
+meets-earlier-requires : tie.Need-meets-earlier-requires Inv-loop μ-loop
+meets-earlier-requires c κs = search needs
+
+-- src/lib.rt:61:13
+returns : tie.Need-returns Inv-loop μ-loop
+unfolding allMeet
+returns c =
+    let n = c .before .before .before .before .before .args .size in
+    let k = c .before .before .before .loop .k in
+    sym (all-fails _ n (suc k) (omega arith) (omega arith) (sym (rw add-one at (c .before .meets-earlier .ensures)) ∙ not-true _ (c .if1 .taken)))
+
+-- src/lib.rt:59:9
+add-k : tie.Need-add-k Inv-loop μ-loop
+add-k c = search needs
+
+-- src/lib.rt:59:5
+loop-less : tie.Need-loop-less Inv-loop μ-loop
+loop-less c = search needs
+
+-- src/lib.rt:59:5
+loop-again : tie.Need-loop-again Inv-loop μ-loop
+loop-again c =
+    let l = c .before .before .before .loop in
+    (omega arith, all-more _ (l .k) (l .inv .1) (sym (rw add-one at (c .before .meets-earlier .ensures)) ∙ not-false _ (c .if1 .left)))
+
+-- src/lib.rt:55:1
+returns-2 : tie.Need-returns-2 Inv-loop μ-loop
+unfolding allMeet
+returns-2 c = sym (rw (le-antisymm (c .before .loop .inv .0) (c .loop-test .left)) at (c .before .loop .inv .1))
+
+pub all-meet-spec : {M : Type 1} → statement M
+all-meet-spec =
+    tie.close
+    (tie.spec
+    Inv-loop
+    μ-loop
+    loop-holds
+    meets-earlier-requires
+    returns
+    add-k
+    loop-less
+    loop-again
+    returns-2)
