@@ -12,7 +12,7 @@ use Rattle.protocol.specs.Message.{Message, request, reply, release, han
 use Rattle.protocol.specs.Setting.{Setting}
 use Rattle.protocol.specs.Local.{REST, WAITING, INSIDE, Local, View, view, send, withArbiter, withEntries, withQueued}
 use Rattle.protocol.specs.Arbiter.{fromHolder, isEarly, heldByHeir, headOf, beforeHolder, granted, grantedHead, formerTold, failFormer, inquireOrFail, answers, queuedUp, onRequest, earlyRelease, onRelease, heirTakesOver, onHandOver, onYield}
-use Rattle.protocol.specs.Site.{yielded, entered, taken, mustYield, onInquire, onFail, namesHeld, onTransfer, takes, onReply, handled}
+use Rattle.protocol.specs.Site.{yielded, entered, taken, failedInquired, onInquire, namesHeld, onTransfer, takes, onReply, mustYield, onFail, handled}
 use Rattle.protocol.specs.System.{System, settingOf}
 use Rattle.protocol.specs.Rig.{Row, Sent, Rig, rowOf, sentBy, inOrder, channel, Event, ask, leave, deliver, withoutEntries, localAt, rowsTaken, asked, left, allHeld, withEffect, delivered, takenOff, step, run, fresh}
 use Rattle.protocol.proofs.Basics.{by-bool}
@@ -64,14 +64,6 @@ yielded-bounded : (b : ℕ) (t : Local) (k : ℕ) → LocalBelow b t → ViewBel
 unfolding yielded
 yielded-bounded b t k s = send-bounded b _ (yield k (t.held k)) (s .held k) (nothing b _ (record { grant = s .grant; holderSeq = s .holderSeq; queued = s .queued; held = update-bounded t.held k 0 b (omega arith) (s .held); inquired = update-bounded t.inquired k 0 b (omega arith) (s .inquired) }))
 
-pub onFail-bounded : (b : ℕ) (t : Local) (k : ℕ) → LocalBelow b t → ViewBelow b (onFail (view t []) k)
-unfolding onFail
-onFail-bounded b t k s = by-bool (eqb (t.mode k) WAITING)
-    (λ e. by-bool (not (eqb (t.held k) 0) && not (eqb (t.inquired k) 0))
-    (λ f. rw (e, f) (yielded-bounded b t k s))
-    (λ f. rw (e, f) (nothing b _ (record { grant = s .grant; holderSeq = s .holderSeq; queued = s .queued; held = s .held; inquired = s .inquired }))))
-    (λ e. rw e (nothing b t s))
-
 onInquire-bounded : (b : ℕ) (t : Local) (k n : ℕ) → n ≤ b → LocalBelow b t → ViewBelow b (onInquire (view t []) k n)
 unfolding onInquire
 onInquire-bounded b t k n l s =
@@ -95,6 +87,14 @@ unfolding entered
 entered-bounded b t k s = nothing b _ (record { grant = s .grant; holderSeq = s .holderSeq; queued = s .queued; held = s .held; inquired = update-bounded t.inquired k 0 b (omega arith) (s .inquired) })
 
 module _ (p : Setting) where
+  pub onFail-bounded : (b : ℕ) (t : Local) (k : ℕ) → LocalBelow b t → ViewBelow b (onFail p (view t []) k)
+  unfolding onFail
+  onFail-bounded b t k s = by-bool (eqb (t.mode k) WAITING)
+      (λ e. by-bool (mustYield p t k)
+      (λ f. rw (e, f) (yielded-bounded b t k s))
+      (λ f. rw (e, f) (nothing b _ (record { grant = s .grant; holderSeq = s .holderSeq; queued = s .queued; held = s .held; inquired = s .inquired }))))
+      (λ e. rw e (nothing b t s))
+
   granted-bounded : (b : ℕ) (t : Local) (k n : ℕ) → n ≤ b → LocalBelow b t → ViewBelow (suc b) (granted p (view t []) k n)
   unfolding granted
   granted-bounded b t k n l s =
@@ -179,7 +179,7 @@ module _ (p : Setting) where
       by-bool (takes p t k)
       (λ e. by-bool ent
       (λ f. rw (e, f) (entered-bounded b _ k u))
-      (λ f. by-bool (mustYield (taken t k n) k)
+      (λ f. by-bool (failedInquired (taken t k n) k)
       (λ g. rw (e, f, g) (yielded-bounded b _ k u))
       (λ g. rw (e, f, g) (nothing b _ u))))
       (λ e. rw e (nothing b t s))
@@ -279,8 +279,8 @@ module _ (y : System) where
   delivered-bounded b r rest j (fail k) h a l = rig-up b (suc (suc b)) _ (omega arith) (record {
     clock = h .clock;
     seq = h .seq;
-    rows = λ i. ((onFail-bounded b (localAt r i) k (h .rows i)) .tables);
-    underWay = all-append _ rest _ a (all-inOrder b _ y.size (λ i. (onFail-bounded b (localAt r i) k (h .rows i)) .messages));
+    rows = λ i. ((onFail-bounded (settingOf y i) b (localAt r i) k (h .rows i)) .tables);
+    underWay = all-append _ rest _ a (all-inOrder b _ y.size (λ i. (onFail-bounded (settingOf y i) b (localAt r i) k (h .rows i)) .messages));
   })
   delivered-bounded b r rest j (reply f k n) h0 a l =
       let h = rig-up b (suc (suc b)) r (omega arith) h0 in

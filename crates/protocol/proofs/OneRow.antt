@@ -12,7 +12,7 @@ use Rattle.protocol.specs.Message.{Message, request, reply, release, han
 use Rattle.protocol.specs.Setting.{Setting}
 use Rattle.protocol.specs.Local.{WAITING, Local, View, view, withArbiter, withQueued}
 use Rattle.protocol.specs.Arbiter.{fromHolder, isEarly, headOf, beforeHolder, granted, grantedHead, formerTold, failFormer, inquireOrFail, answers, queuedUp, onRequest, earlyRelease, onRelease, heirTakesOver, onHandOver, onYield}
-use Rattle.protocol.specs.Site.{yielded, entered, taken, mustYield, onInquire, onFail, namesHeld, onTransfer, takes, onReply, handled}
+use Rattle.protocol.specs.Site.{yielded, entered, taken, failedInquired, onInquire, namesHeld, onTransfer, takes, onReply, mustYield, onFail, handled}
 use Rattle.protocol.specs.Rig.{localOf, rowOf, sitesOf}
 use Rattle.protocol.proofs.Basics.{by-bool, clash, and-split, update-marked}
 
@@ -107,11 +107,11 @@ module _ (p : Setting) where
 
   -- a fail
   pub onFail-row : (t : Local) (b : ℕ) (ms : List Message)
-      → (onFail (view t ms) b ≡ view (localOf (record { mode = t.mode; seq = t.seq; failed = cond (eqb (t.mode b) WAITING) (update t.failed b true) t.failed }) (rowOf ((onFail (view t []) b) .tables))) (ms ++ (onFail (view t []) b) .messages))
-      × ((k : ℕ) → t.held k ≡ 0 → (onFail (view t []) b) .tables .held k ≡ 0)
+      → (onFail p (view t ms) b ≡ view (localOf (record { mode = t.mode; seq = t.seq; failed = cond (eqb (t.mode b) WAITING) (update t.failed b true) t.failed }) (rowOf ((onFail p (view t []) b) .tables))) (ms ++ (onFail p (view t []) b) .messages))
+      × ((k : ℕ) → t.held k ≡ 0 → (onFail p (view t []) b) .tables .held k ≡ 0)
   unfolding onFail yielded
   onFail-row t b ms = by-bool (eqb (t.mode b) WAITING)
-      (λ e. by-bool (not (eqb (t.held b) 0) && not (eqb (t.inquired b) 0))
+      (λ e. by-bool (mustYield p t b)
       (λ f. rw (e, f) (refl, λ i z. cleared-held t b i z))
       (λ f. rw (e, f) (rw append-nil, λ i h. h)))
       (λ e. rw e (rw append-nil, λ i h. h))
@@ -124,7 +124,7 @@ module _ (p : Setting) where
   onReply-row t b n ent ms = by-bool (takes p t b)
       (λ e. by-bool ent
       (λ f. rw (e, f) (rw append-nil))
-      (λ f. by-bool (mustYield (taken t b n) b)
+      (λ f. by-bool (failedInquired (taken t b n) b)
       (λ g. rw (e, f, g) (rw (update-marked t.failed b (and-split (t.failed b) (not (eqb ((taken t b n) .inquired b) 0)) g .0))))
       (λ g. rw (e, f, g) (rw append-nil))))
       (λ e. rw e (rw append-nil))
@@ -135,7 +135,7 @@ module _ (p : Setting) where
   reply-held t b n ent k ne h = by-bool (takes p t b)
       (λ e. by-bool ent
       (λ f. rw (e, f, ne-eqb k b ne) h)
-      (λ f. by-bool (mustYield (taken t b n) b)
+      (λ f. by-bool (failedInquired (taken t b n) b)
       (λ g. rw (e, f, g, ne-eqb k b ne) h)
       (λ g. rw (e, f, g, ne-eqb k b ne) h)))
       (λ e. rw e h)

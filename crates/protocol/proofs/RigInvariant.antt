@@ -5,8 +5,6 @@ use mathlib.Core.Path.{_≡_}
 use mathlib.Core.Logic.{_≢_}
 use mathlib.Core.Bool.{true, false}
 use mathlib.Core.Option.{some}
-use lib.Dec.{eqb}
-use borrow.Author.Tests.{eqb-true, eqb-false}
 use Rattle.protocol.specs.Helpers.{first}
 use Rattle.protocol.specs.Message.{Message, between}
 use Rattle.protocol.specs.Local.{REST, WAITING, INSIDE}
@@ -52,12 +50,6 @@ module _ (y : System) (lw : Lawful y) where
   -- so its arbiter is one of the sites 1 to N
   pub arbiter-range : (r : Rig) (a b : ℕ) (x : Sent) → first (channel a b) r.underWay ≡ some x → RigInvariant y r → (1 ≤ x.arbiter) × (x.arbiter ≤ y.size)
   arbiter-range r a b x e w = lw .memberInRange (siteOf x.message) x.arbiter (fits-member (settingOf y x.arbiter) (viewOf r x.arbiter) x.message (first-fits r a b x.arbiter x.message e w))
-
-  -- an arbiter that is in no set is held by nobody
-  pub held-range : (r : Rig) (i b : ℕ) → RigInvariant y r → ((1 ≤ i) → i ≤ y.size → ⊥) → (r.rows i) .held b ≡ 0
-  held-range r i b w h = by-bool (eqb ((r.rows i) .held b) 0) (λ e. eqb-true ((r.rows i) .held b) 0 e)
-      (λ e. let m = clauses-at r w i .T2 b (eqb-false ((r.rows i) .held b) 0 e) .1 in
-      let z = lw .memberInRange b i m in absurd (h (z .0) (z .1)))
 
   -- no set has a member outside 1 to N
   pub not-member : (s j : ℕ) → ((1 ≤ j) → j ≤ y.size → ⊥) → y.sets s j ≡ false

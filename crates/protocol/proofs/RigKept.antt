@@ -11,8 +11,9 @@ use lib.Dec.{eqb, leb}
 use borrow.Author.Tests.{eqb-true, eqb-false, eq-eqb, ne-eqb, leb-true}
 use Rattle.protocol.specs.Helpers.{update, first, withoutFirst}
 use Rattle.protocol.specs.Message.{Message, request, reply, release, handOver, inquire, fail, yield, transfer, between}
+use Rattle.protocol.specs.Setting.{Setting}
 use Rattle.protocol.specs.Local.{REST, WAITING, INSIDE, Local, view}
-use Rattle.protocol.specs.Site.{yielded, entered, onFail, takes, onReply, handled}
+use Rattle.protocol.specs.Site.{yielded, entered, takes, onReply, mustYield, onFail, handled}
 use Rattle.protocol.specs.System.{System, Lawful, settingOf}
 use Rattle.protocol.specs.Rig.{Row, Sent, Rig, messagesOf, sent, sentBy, inOrder, channel, Event, ask, leave, deliver, localAt, rowsTaken, withoutInquired, requests, asked, handOns, left, allHeld, effect, withEffect, failSeen, delivered, takenOff, step, run, fresh}
 use Rattle.protocol.proofs.Basics.{by-bool, clash, and-split, and-true, all-at, all-false}
@@ -26,7 +27,7 @@ use Rattle.protocol.proofs.EveryMessage.{freshView, first-invariant, ha
 use Rattle.protocol.proofs.Clauses.{FitsTables}
 use Rattle.protocol.proofs.OneRow.{Simple, onFail-row, onReply-row, reply-held, handled-row}
 use Rattle.protocol.proofs.RigMessages.{messages-append, messages-sentBy, messages-other, first-messages, without-messages, without-other, messages-all}
-use Rattle.protocol.proofs.RigInvariant.{RigInvariant, first-fits, arbiter-range, held-range, not-member}
+use Rattle.protocol.proofs.RigInvariant.{RigInvariant, first-fits, arbiter-range, not-member}
 
 module _ (y : System) (lw : Lawful y) where
   -- an ask: every arbiter sees it
@@ -101,19 +102,18 @@ module _ (y : System) (lw : Lawful y) where
         );
       }
 
-  -- where nothing is held, a fail sends nothing
-  onFail-silent : (t : Local) (b : ℕ) → t.held b ≡ 0 → (onFail (view t []) b) .messages ≡ []
+  -- an arbiter outside the set sends nothing on a fail, and no arbiter changes its grant number
+  onFail-silent : (p : Setting) (t : Local) (b : ℕ) → p .member b ≡ false → (onFail p (view t []) b) .messages ≡ []
   unfolding onFail
-  onFail-silent t b h = by-bool (eqb (t.mode b) WAITING) (λ e. rw (e, eq-eqb (t.held b) 0 h)) (λ e. rw e)
+  onFail-silent p t b h = by-bool (eqb (t.mode b) WAITING) (λ e. rw (e, h)) (λ e. rw e)
 
-  -- a fail changes no grant number
-  onFail-grant : (t : Local) (b : ℕ) → (onFail (view t []) b) .tables .grant ≡ t.grant
+  onFail-grant : (p : Setting) (t : Local) (b : ℕ) → (onFail p (view t []) b) .tables .grant ≡ t.grant
   unfolding onFail yielded
-  onFail-grant t b = by-bool (eqb (t.mode b) WAITING) (λ e. by-bool (not (eqb (t.held b) 0) && not (eqb (t.inquired b) 0)) (λ f. rw (e, f)) (λ f. rw (e, f))) (λ e. rw e)
+  onFail-grant p t b = by-bool (eqb (t.mode b) WAITING) (λ e. by-bool (mustYield p t b) (λ f. rw (e, f)) (λ f. rw (e, f))) (λ e. rw e)
 
   -- a fail, at its own arbiter
   fail-own-arbiter : (r : Rig) (a b j k : ℕ) → first (channel a b) r.underWay ≡ some (sent j (fail k)) → RigInvariant y r
-      → Invariant (settingOf y j) (onFail (view (localAt r j) (messagesOf j (withoutFirst (channel a b) r.underWay))) k)
+      → Invariant (settingOf y j) (onFail (settingOf y j) (view (localAt r j) (messagesOf j (withoutFirst (channel a b) r.underWay))) k)
   unfolding handled
   fail-own-arbiter r a b j k f w = own-arbiter-kept r a b (sent j (fail k)) false f w
 
@@ -127,17 +127,17 @@ module _ (y : System) (lw : Lawful y) where
       record {
         arbiters = λ i.
             let t = localAt r i in
-            rw (messages-append i rest (inOrder F y.size), messages-all i y.size F (λ h. onFail-silent t k (held-range y lw r i k w h)))
+            rw (messages-append i rest (inOrder F y.size), messages-all i y.size F (λ h. onFail-silent (settingOf y i) t k (not-member y lw k i h)))
             (rw (onFail-row (settingOf y i) t k (messagesOf i rest) .0) at (fail-seen r a b j k f w i));
         inRange = w .inRange;
         modeRange = w .modeRange;
         clockInRange = w .clockInRange;
-        grantInRange = λ i h. w .grantInRange i (λ z. h (onFail-grant (localAt r i) k ∙ z));
+        grantInRange = λ i h. w .grantInRange i (λ z. h (onFail-grant (settingOf y i) (localAt r i) k ∙ z));
         lacksOne = λ i m. let (j0, s, h) = w .lacksOne i m in (j0, s, onFail-row (settingOf y j0) (localAt r j0) k [] .1 i h);
       }
     where
       fail-seen : (r : Rig) (a b j k : ℕ) → first (channel a b) r.underWay ≡ some (sent j (fail k)) → RigInvariant y r → (i : ℕ)
-          → Invariant (settingOf y i) (onFail (view (localAt r i) (messagesOf i (withoutFirst (channel a b) r.underWay))) k)
+          → Invariant (settingOf y i) (onFail (settingOf y i) (view (localAt r i) (messagesOf i (withoutFirst (channel a b) r.underWay))) k)
       fail-seen r a b j k f w i = by-bool (eqb i j)
           (λ e. rw (eqb-true i j e) (fail-own-arbiter r a b j k f w))
           (λ e. rw (without-other a b i r.underWay (sent j (fail k)) f (eqb-false i j e)) (failSeen-kept (settingOf y i) (localAt r i) k (messagesOf i r.underWay) (w .arbiters i)))

@@ -7,7 +7,7 @@ use lib.Dec.{eqb, leb}
 use Rattle.protocol.specs.Helpers.{update, all, first, withoutFirst}
 use Rattle.protocol.specs.Message.{Message, request, reply, release, handOver, inquire, fail, yield, transfer, between}
 use Rattle.protocol.specs.Local.{REST, WAITING, INSIDE, Local, View, view}
-use Rattle.protocol.specs.Site.{taken, onFail, takes, handled}
+use Rattle.protocol.specs.Site.{taken, takes, onFail, handled}
 use Rattle.protocol.specs.System.{System, settingOf}
 
 -- arbiter j's row, and its column of the tables held, heir and inquired
@@ -142,7 +142,7 @@ module _ (y : System) where
 
   -- a fail to b, as arbiter i sees it
   abbrev pub failSeen : Rig → ℕ → ℕ → View
-  failSeen r b i = onFail (view (localAt r i) []) b
+  failSeen r b i = onFail (settingOf y i) (view (localAt r i) []) b
 
   -- what the message m of arbiter j makes of the rig; rest is the list without it. A request raises the clock of the site that is the
   -- arbiter; a fail may be followed by yields to every arbiter; a reply may let its site enter.

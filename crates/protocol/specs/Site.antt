@@ -25,8 +25,8 @@ abbrev pub taken : Local → ℕ → ℕ → Local
 taken t b n = withEntries t (update t.held b n) t.heir (update t.inquired b (cond (eqb (t.inquired b) n) n 0))
 
 -- "if failed and an inquire for j is remembered"
-abbrev pub mustYield : Local → ℕ → Bool
-mustYield t b = t.failed b && not (eqb (t.inquired b) 0)
+abbrev pub failedInquired : Local → ℕ → Bool
+failedInquired t b = t.failed b && not (eqb (t.inquired b) 0)
 
 -- "remembers it", in place of any older one
 abbrev pub remembered : Local → ℕ → ℕ → Local
@@ -42,16 +42,6 @@ onInquire v b n =
     (cond (eqb n (t.held b))
     (cond (t.failed b) (yielded v b) (view (remembered t b n) v.messages))
     v))
-    v
-
--- "Fail to a waiting site: failed is set; every held member with a remembered inquire is yielded": what this arbiter sees of it,
--- whichever arbiter sent the fail
-unfoldable pub onFail : View → ℕ → View
-onFail v b =
-    let t = v.tables in
-    cond (eqb (t.mode b) WAITING)
-    (cond (not (eqb (t.held b) 0) && not (eqb (t.inquired b) 0)) (yielded v b)
-    (view (withSites t t.mode t.seq (update t.failed b true)) v.messages))
     v
 
 -- "Transfer from j whose number the site holds for j"
@@ -76,8 +66,22 @@ module _ (p : Setting) where
       let u = taken v.tables b n in
       cond (takes v.tables b)
       (cond allHeld (entered (view u v.messages) b)
-      (cond (mustYield u b) (yielded (view u v.messages) b)
+      (cond (failedInquired u b) (yielded (view u v.messages) b)
       (view u v.messages)))
+      v
+
+  -- "every held member with a remembered inquire": whether this arbiter is such a one
+  abbrev pub mustYield : Local → ℕ → Bool
+  mustYield t b = p .member b && (not (eqb (t.held b) 0) && not (eqb (t.inquired b) 0))
+
+  -- "Fail to a waiting site: failed is set; every held member with a remembered inquire is yielded": what this arbiter sees of it,
+  -- whichever arbiter sent the fail
+  unfoldable pub onFail : View → ℕ → View
+  onFail v b =
+      let t = v.tables in
+      cond (eqb (t.mode b) WAITING)
+      (cond (mustYield t b) (yielded v b)
+      (view (withSites t t.mode t.seq (update t.failed b true)) v.messages))
       v
 
   -- each kind by its rule; the message is off the list, and allHeld matters for a reply only

@@ -4,19 +4,19 @@
 use Prim.Native.Nat.{ℕ, _≤_, _<_}
 use mathlib.Core.Path.{_≡_, refl}
 use mathlib.Core.Logic.{_≢_}
-use mathlib.Core.Bool.{true}
+use mathlib.Core.Bool.{true, not}
 use mathlib.Core.List.{List, _∷_}
 use native.Mathlib.Omega.{arith}
 use lib.Dec.{eqb}
-use borrow.Author.Tests.{eqb-true, eqb-false, ne-eqb}
+use borrow.Author.Tests.{eqb-true, eqb-false, ne-eqb, not-true}
 use Rattle.protocol.specs.Helpers.{update, tally}
 use Rattle.protocol.specs.Message.{Message, fail}
 use Rattle.protocol.specs.Setting.{Setting}
 use Rattle.protocol.specs.Local.{WAITING, Local, view, withSites}
 use Rattle.protocol.specs.Arbiter.{headOf, beforeHolder}
-use Rattle.protocol.specs.Site.{onFail}
+use Rattle.protocol.specs.Site.{mustYield, onFail}
 use Rattle.protocol.specs.Rig.{asked}
-use Rattle.protocol.proofs.Basics.{by-bool, clash}
+use Rattle.protocol.proofs.Basics.{by-bool, clash, and-split, and-true, not-of}
 use Rattle.protocol.proofs.Lists.{All}
 use Rattle.protocol.proofs.Invariant.{Ghost, FREE, HELD, isInquire, Ordered, Ascending, InquiryFits, Core, Invariant}
 use Rattle.protocol.proofs.Sending.{take-quiet}
@@ -27,20 +27,20 @@ module _ (p : Setting) where
   pub onFail-core : (t : Local) (o : Ghost) (b : ℕ) (ms : List Message) → Core p t o ms → ((k : ℕ) → InquiryFits t k) → (o.stage ≡ FREE → (k : ℕ) → t.queued k ≡ 0)
       → OwedBut p t o ms b
       → (o.ahead ≡ 0 → o.stage ≢ FREE → o.stage ≤ HELD → o.known o.owner ≢ 0 → headOf p t.queued ≢ 0 → beforeHolder p t (headOf p t.queued) ≡ true → t.inquired o.owner ≢ t.grant → 0 < tally (isInquire o.owner t.grant) ms)
-      → ((k : ℕ) → Ascending k (t.inquired k) ms) → Invariant p (onFail (view t ms) b)
+      → ((k : ℕ) → Ascending k (t.inquired k) ms) → Invariant p (onFail p (view t ms) b)
   unfolding onFail update
   onFail-core t o b ms c inquiriesFit freeQueueEmpty ow asked ascending =
       by-bool (eqb (t.mode b) WAITING)
       (λ e. let w = eqb-true (t.mode b) WAITING e in
-      by-bool (eqb (t.held b) 0)
-      (λ h. rw (e, h) (marked-only w (λ i j. absurd (j (eqb-true (t.held b) 0 h)))))
-      (λ h. by-bool (eqb (t.inquired b) 0)
-      (λ i. rw (e, h, i) (marked-only w (λ k l. absurd (k (eqb-true (t.inquired b) 0 i)))))
-      (λ i. rw (e, h, i) (let hb = eqb-false (t.held b) 0 h in let ib = eqb-false (t.inquired b) 0 i in
+      by-bool (mustYield p t b)
+      (λ f. let v = and-split (not (eqb (t.held b) 0)) (not (eqb (t.inquired b) 0)) (and-split (p .member b) _ f .1) in
+      let hb = eqb-false (t.held b) 0 (not-true _ (v .0)) in let ib = eqb-false (t.inquired b) 0 (not-true _ (v .1)) in
       let q = inquiriesFit b ib hb in
       let l = c .column .remembered b ib in
       let y = yielder-owns p t o b ms c hb (omega arith) in
-      yielded-kept p t o b ms (y .0) (y .1) (y .2) w c (λ k ne. inquiriesFit k) ow ascending))))
+      rw (e, f) (yielded-kept p t o b ms (y .0) (y .1) (y .2) w c (λ k ne. inquiriesFit k) ow ascending))
+      (λ f. rw (e, f) (marked-only w (λ i h. let l = c .column .remembered b i in
+      clash (mustYield p t b) (and-true (p .member b) _ (l .1) (and-true _ _ (not-of (eqb (t.held b) 0) (ne-eqb (t.held b) 0 h)) (not-of (eqb (t.inquired b) 0) (ne-eqb (t.inquired b) 0 i)))) f))))
       (λ e. rw e (
         o,
         record {
@@ -84,11 +84,11 @@ module _ (p : Setting) where
       )
 
   -- another arbiter's fail
-  pub failSeen-kept : (t : Local) (b : ℕ) (ms : List Message) → Invariant p (view t ms) → Invariant p (onFail (view t ms) b)
+  pub failSeen-kept : (t : Local) (b : ℕ) (ms : List Message) → Invariant p (view t ms) → Invariant p (onFail p (view t ms) b)
   failSeen-kept t b ms (o, s) = onFail-core t o b ms (s .core) (s .inquiriesFit) (s .freeQueueEmpty) (λ k ne. s .owed .failOwed k) (s .owed .inquireOwed) (s .owed .ascending)
 
   -- this arbiter's own fail
-  pub onFail-kept : (t : Local) (b : ℕ) (ms : List Message) → Invariant p (view t (fail b ∷ ms)) → Invariant p (onFail (view t ms) b)
+  pub onFail-kept : (t : Local) (b : ℕ) (ms : List Message) → Invariant p (view t (fail b ∷ ms)) → Invariant p (onFail p (view t ms) b)
   unfolding All Ordered tally Ascending
   onFail-kept t b ms (o, s) =
       let v = s .core in
