@@ -19,4 +19,3 @@ pub mod RigInvariant
 pub mod RigKept
 pub mod Demand3
 pub mod Numbers
-pub mod Priority

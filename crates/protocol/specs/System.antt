@@ -2,8 +2,7 @@
 use Prim.Native.Nat.{ℕ, _≤_}
 use mathlib.Core.Path.{_≡_}
 use mathlib.Core.Logic.{_≢_}
-use mathlib.Core.Bool.{Bool, true, false, cond}
-use lib.Dec.{eqb, ltb}
+use mathlib.Core.Bool.{Bool, true, false}
 use Rattle.protocol.specs.Setting.{Setting}
 
 -- sites 1 to size; sets k j says that j is a member of the set of site k
@@ -24,11 +23,6 @@ pub record Lawful (y : System) : Type 0 where
   pub irreflexive : (s k : ℕ) → y.comesBefore s k s k ≡ false
   pub transitive : (a x b z c w : ℕ) → y.comesBefore a x b z ≡ true → y.comesBefore b z c w ≡ true → y.comesBefore a x c w ≡ true
   pub total : (a x b z : ℕ) → x ≢ z → y.comesBefore a x b z ≡ false → y.comesBefore b z a x ≡ true
-
--- "Priority: the smaller sequence number comes before; with equal ones, the smaller site." The claim is for every lawful order, and
--- proofs/Priority.antt shows that this is one.
-unfoldable pub byNumber : ℕ → ℕ → ℕ → ℕ → Bool
-byNumber s k t l = cond (eqb s t) (ltb k l) (ltb s t)
 
 -- the part of it that concerns arbiter j
 abbrev pub settingOf : System → ℕ → Setting
