@@ -7,13 +7,13 @@ use mathlib.Core.List.{List, [], _∷_}
 use native.Mathlib.Omega.{arith}
 use lib.Dec.{eqb}
 use borrow.Author.Tests.{eqb-true, eqb-false, eq-eqb, ne-eqb}
-use Rattle.protocol.specs.Helpers.{count, tally}
+use Rattle.basics.specs.Helpers.{count, tally}
 use Rattle.protocol.specs.Message.{Message, request, reply, release, handOver, inquire, fail, yield, transfer, REPLY, RELEASE, HANDOVER, kind, isOut, isBack}
 use Rattle.protocol.specs.Setting.{Setting, SettingLaw}
 use Rattle.protocol.specs.Local.{REST, WAITING, INSIDE, Local, View, view}
 use Rattle.protocol.specs.Arbiter.{headOf, beforeHolder}
-use Rattle.protocol.proofs.Basics.{by-bool, and-split, count-none, count-one}
-use Rattle.protocol.proofs.Lists.{all-map, all-some, all-none, tally-mono}
+use Rattle.basics.proofs.Basics.{by-bool, and-split, count-none, count-one}
+use Rattle.basics.proofs.Lists.{all-map, all-some, all-none, tally-mono}
 use Rattle.protocol.proofs.Invariant.{Ghost, FREE, OUT, HELD, YIELDED, RELEASED, siteOf, numberOf, heirOf, carriesPermission, isRequestOf, isHandOver, isFailTo, isInquire, Situation, situation, Fits, Core, InvariantWith, Invariant}
 use Rattle.protocol.proofs.Fitting.{fits-permission, permission-replied, permission-released, fits-handOver, no-request}
 use Rattle.protocol.proofs.Kept.Granted.{queued-member}

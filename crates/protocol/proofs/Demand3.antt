@@ -11,7 +11,7 @@ use Rattle.protocol.specs.Local.{view}
 use Rattle.protocol.specs.System.{System, Lawful, settingOf}
 use Rattle.protocol.specs.Rig.{Rig, messagesOf, Event, localAt, run, fresh}
 use Rattle.protocol.specs.Claim.{Sound, Claim}
-use Rattle.protocol.proofs.Basics.{by-bool}
+use Rattle.basics.proofs.Basics.{by-bool}
 use Rattle.protocol.proofs.Clauses.{Clauses}
 use Rattle.protocol.proofs.NotStuck.{nobody-waits}
 use Rattle.protocol.proofs.RigMessages.{messages-nil}

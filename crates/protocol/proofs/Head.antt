@@ -7,10 +7,10 @@ use mathlib.Core.Bool.{true, false}
 use native.Mathlib.Omega.{arith}
 use lib.Dec.{eqb}
 use borrow.Author.Tests.{eqb-true, eqb-false, eq-eqb, ne-eqb}
-use Rattle.protocol.specs.Helpers.{update}
+use Rattle.basics.specs.Helpers.{update}
 use Rattle.protocol.specs.Setting.{Setting, SettingLaw}
 use Rattle.protocol.specs.Arbiter.{goesFirst, head, headOf}
-use Rattle.protocol.proofs.Basics.{by-bool, clash}
+use Rattle.basics.proofs.Basics.{by-bool, clash}
 
 module _ (p : Setting) where
   pub record IsHead (q : ℕ → ℕ) (n h : ℕ) : Type 0 where

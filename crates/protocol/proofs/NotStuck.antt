@@ -10,13 +10,13 @@ use mathlib.Core.Option.{none}
 use native.Mathlib.Omega.{arith}
 use lib.Dec.{eqb}
 use borrow.Author.Tests.{eqb-true, eqb-false, eq-eqb, ne-eqb, not-true}
-use Rattle.protocol.specs.Helpers.{tally, first}
+use Rattle.basics.specs.Helpers.{tally, first}
 use Rattle.protocol.specs.Setting.{Setting, SettingLaw}
 use Rattle.protocol.specs.Local.{REST, WAITING, Local, view}
 use Rattle.protocol.specs.Arbiter.{headOf}
 use Rattle.protocol.specs.System.{System, Lawful, settingOf}
 use Rattle.protocol.specs.Rig.{Row, Sites, localOf}
-use Rattle.protocol.proofs.Basics.{by-bool, clash, and-split, count-some, Least, least}
+use Rattle.basics.proofs.Basics.{by-bool, clash, and-split, count-some, Least, least}
 use Rattle.protocol.proofs.Head.{head-is}
 use Rattle.protocol.proofs.Seen.{law-of}
 use Rattle.protocol.proofs.Clauses.{Clauses}

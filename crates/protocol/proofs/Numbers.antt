@@ -7,7 +7,7 @@ use mathlib.Core.Option.{Option, none, some}
 use native.Mathlib.Omega.{arith}
 use lib.Dec.{eqb, leb}
 use lib.ListN.{length}
-use Rattle.protocol.specs.Helpers.{update, first, withoutFirst}
+use Rattle.basics.specs.Helpers.{update, first, withoutFirst}
 use Rattle.protocol.specs.Message.{Message, request, reply, release, handOver, inquire, fail, yield, transfer}
 use Rattle.protocol.specs.Setting.{Setting}
 use Rattle.protocol.specs.Local.{REST, WAITING, INSIDE, Local, View, view, send, withArbiter, withEntries, withQueued}
@@ -15,8 +15,8 @@ use Rattle.protocol.specs.Arbiter.{fromHolder, isEarly, heldByHeir, head
 use Rattle.protocol.specs.Site.{yielded, entered, taken, failedInquired, onInquire, namesHeld, onTransfer, takes, onReply, mustYield, onFail, handled}
 use Rattle.protocol.specs.System.{System, settingOf}
 use Rattle.protocol.specs.Rig.{Row, Sent, Rig, rowOf, sentBy, inOrder, channel, Event, ask, leave, deliver, withoutEntries, localAt, rowsTaken, asked, left, allHeld, withEffect, delivered, takenOff, step, run, fresh}
-use Rattle.protocol.proofs.Basics.{by-bool}
-use Rattle.protocol.proofs.Lists.{All, all-snoc, all-map, all-without}
+use Rattle.basics.proofs.Basics.{by-bool}
+use Rattle.basics.proofs.Lists.{All, all-snoc, all-map, all-without}
 use Rattle.protocol.proofs.Invariant.{numberOf}
 
 -- of a message

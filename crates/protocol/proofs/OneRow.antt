@@ -7,14 +7,14 @@ use mathlib.Core.Bool.{Bool, true, false, not, _&&_, _||_, cond}
 use mathlib.Core.List.{List, [], _++_, append-assoc, append-nil}
 use lib.Dec.{eqb}
 use borrow.Author.Tests.{ne-eqb}
-use Rattle.protocol.specs.Helpers.{update}
+use Rattle.basics.specs.Helpers.{update}
 use Rattle.protocol.specs.Message.{Message, request, reply, release, handOver, inquire, fail, yield, transfer, REPLY, FAIL, kind}
 use Rattle.protocol.specs.Setting.{Setting}
 use Rattle.protocol.specs.Local.{WAITING, Local, View, view, withArbiter, withQueued}
 use Rattle.protocol.specs.Arbiter.{fromHolder, isEarly, headOf, beforeHolder, granted, grantedHead, formerTold, failFormer, inquireOrFail, answers, queuedUp, onRequest, earlyRelease, onRelease, heirTakesOver, onHandOver, onYield}
 use Rattle.protocol.specs.Site.{yielded, entered, taken, failedInquired, onInquire, namesHeld, onTransfer, takes, onReply, mustYield, onFail, handled}
 use Rattle.protocol.specs.Rig.{localOf, rowOf, sitesOf}
-use Rattle.protocol.proofs.Basics.{by-bool, clash, and-split, update-marked}
+use Rattle.basics.proofs.Basics.{by-bool, clash, and-split, update-marked}
 
 -- a handler appends, keeps the sites' mode, number and mark, and gives nobody the permission
 abbrev pub OneRow : (View → View) → Local → List Message → Type 0

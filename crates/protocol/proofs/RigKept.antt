@@ -9,14 +9,14 @@ use mathlib.Core.Option.{Option, none, some}
 use native.Mathlib.Omega.{arith}
 use lib.Dec.{eqb, leb}
 use borrow.Author.Tests.{eqb-true, eqb-false, eq-eqb, ne-eqb, leb-true}
-use Rattle.protocol.specs.Helpers.{update, first, withoutFirst}
+use Rattle.basics.specs.Helpers.{update, first, withoutFirst}
 use Rattle.protocol.specs.Message.{Message, request, reply, release, handOver, inquire, fail, yield, transfer, between}
 use Rattle.protocol.specs.Setting.{Setting}
 use Rattle.protocol.specs.Local.{REST, WAITING, INSIDE, Local, view}
 use Rattle.protocol.specs.Site.{yielded, entered, takes, onReply, mustYield, onFail, handled}
 use Rattle.protocol.specs.System.{System, Lawful, settingOf}
 use Rattle.protocol.specs.Rig.{Row, Sent, Rig, messagesOf, sent, sentBy, inOrder, channel, Event, ask, leave, deliver, localAt, rowsTaken, withoutInquired, requests, asked, handOns, left, allHeld, effect, withEffect, failSeen, delivered, takenOff, step, run, fresh}
-use Rattle.protocol.proofs.Basics.{by-bool, clash, and-split, and-true, all-at, all-false}
+use Rattle.basics.proofs.Basics.{by-bool, clash, and-split, and-true, all-at, all-false}
 use Rattle.protocol.proofs.Invariant.{Invariant}
 use Rattle.protocol.proofs.Seen.{askSeen, leaveSeen, viewOf, law-of}
 use Rattle.protocol.proofs.Kept.Fail.{failSeen-kept}

@@ -2,7 +2,7 @@
 use Prim.Native.Nat.{ℕ, suc}
 use mathlib.Core.Bool.{false, not, _&&_, cond}
 use lib.Dec.{eqb}
-use Rattle.protocol.specs.Helpers.{update}
+use Rattle.basics.specs.Helpers.{update}
 use Rattle.protocol.specs.Message.{request, reply, release, handOver}
 use Rattle.protocol.specs.Setting.{Setting, SettingLaw}
 use Rattle.protocol.specs.Local.{REST, WAITING, View, view, send, withSites, withoutEntry}

@@ -3,7 +3,7 @@
 use Prim.Native.Nat.{ℕ, zero, suc}
 use mathlib.Core.Bool.{Bool, not, _&&_, cond}
 use lib.Dec.{eqb}
-use Rattle.protocol.specs.Helpers.{update}
+use Rattle.basics.specs.Helpers.{update}
 use Rattle.protocol.specs.Message.{reply, inquire, fail, transfer}
 use Rattle.protocol.specs.Setting.{Setting}
 use Rattle.protocol.specs.Local.{Local, View, view, send, withArbiter, withQueued}

@@ -5,7 +5,7 @@ use mathlib.Core.Logic.{_≢_}
 use mathlib.Core.Bool.{not, cond}
 use mathlib.Core.List.{List, []}
 use lib.Dec.{eqb}
-use Rattle.protocol.specs.Helpers.{count, tally}
+use Rattle.basics.specs.Helpers.{count, tally}
 use Rattle.protocol.specs.Message.{Message, isOut, isBack}
 use Rattle.protocol.specs.Local.{WAITING, INSIDE}
 use Rattle.protocol.specs.System.{System, Lawful}

@@ -2,7 +2,7 @@
 use Prim.Native.Nat.{ℕ}
 use mathlib.Core.Bool.{Bool}
 use mathlib.Core.List.{List, [], _∷_, _++_}
-use Rattle.protocol.specs.Helpers.{update}
+use Rattle.basics.specs.Helpers.{update}
 use Rattle.protocol.specs.Message.{Message}
 
 -- "A site is at rest, waiting or inside"

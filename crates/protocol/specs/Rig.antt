@@ -4,7 +4,7 @@ use mathlib.Core.Bool.{Bool, true, false, not, _&&_, _||_, cond}
 use mathlib.Core.List.{List, [], _∷_, _++_}
 use mathlib.Core.Option.{Option, none, some}
 use lib.Dec.{eqb, leb}
-use Rattle.protocol.specs.Helpers.{update, all, first, withoutFirst}
+use Rattle.basics.specs.Helpers.{update, all, first, withoutFirst}
 use Rattle.protocol.specs.Message.{Message, request, reply, release, handOver, inquire, fail, yield, transfer, between}
 use Rattle.protocol.specs.Local.{REST, WAITING, INSIDE, Local, View, view}
 use Rattle.protocol.specs.Site.{taken, takes, onFail, handled}

@@ -8,12 +8,12 @@ use mathlib.Core.List.{List}
 use native.Mathlib.Omega.{arith}
 use lib.Dec.{eqb}
 use borrow.Author.Tests.{eqb-true, eqb-false, eq-eqb, ne-eqb}
-use Rattle.protocol.specs.Helpers.{update}
+use Rattle.basics.specs.Helpers.{update}
 use Rattle.protocol.specs.Message.{Message}
 use Rattle.protocol.specs.Setting.{Setting}
 use Rattle.protocol.specs.Local.{WAITING, Local, view}
 use Rattle.protocol.specs.Site.{entered}
-use Rattle.protocol.proofs.Basics.{by-bool, clash}
+use Rattle.basics.proofs.Basics.{by-bool, clash}
 use Rattle.protocol.proofs.Invariant.{Ghost, FREE, HELD, ghost, situation, InquiryFits, OwedIn, Core, Invariant}
 use Rattle.protocol.proofs.Fitting.{fix, no-request, all-mode}
 use Rattle.protocol.proofs.Owing.{fix-owed, ascending-update}

@@ -9,15 +9,15 @@ use mathlib.Core.List.{List, _∷_}
 use native.Mathlib.Omega.{arith}
 use lib.Dec.{eqb}
 use borrow.Author.Tests.{eqb-true, eqb-false, ne-eqb, not-true}
-use Rattle.protocol.specs.Helpers.{update, tally}
+use Rattle.basics.specs.Helpers.{update, tally}
 use Rattle.protocol.specs.Message.{Message, fail}
 use Rattle.protocol.specs.Setting.{Setting}
 use Rattle.protocol.specs.Local.{WAITING, Local, view, withSites}
 use Rattle.protocol.specs.Arbiter.{headOf, beforeHolder}
 use Rattle.protocol.specs.Site.{mustYield, onFail}
 use Rattle.protocol.specs.Rig.{asked}
-use Rattle.protocol.proofs.Basics.{by-bool, clash, and-split, and-true, not-of}
-use Rattle.protocol.proofs.Lists.{All}
+use Rattle.basics.proofs.Basics.{by-bool, clash, and-split, and-true, not-of}
+use Rattle.basics.proofs.Lists.{All}
 use Rattle.protocol.proofs.Invariant.{Ghost, FREE, HELD, isInquire, Ordered, Ascending, InquiryFits, Core, Invariant}
 use Rattle.protocol.proofs.Sending.{take-quiet}
 use Rattle.protocol.proofs.Kept.Yielded.{OwedBut, yielded-kept, yielder-owns}

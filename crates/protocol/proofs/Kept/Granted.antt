@@ -9,13 +9,13 @@ use mathlib.Core.List.{List, [], _∷_, _++_}
 use native.Mathlib.Omega.{arith}
 use lib.Dec.{eqb}
 use borrow.Author.Tests.{eqb-true, eqb-false, eq-eqb, ne-eqb}
-use Rattle.protocol.specs.Helpers.{update, tally}
+use Rattle.basics.specs.Helpers.{update, tally}
 use Rattle.protocol.specs.Message.{Message, reply, transfer}
 use Rattle.protocol.specs.Setting.{Setting, SettingLaw}
 use Rattle.protocol.specs.Local.{Local, view, withArbiter}
 use Rattle.protocol.specs.Arbiter.{headOf, granted, grantedHead}
-use Rattle.protocol.proofs.Basics.{by-bool, clash, update-same, update-other}
-use Rattle.protocol.proofs.Lists.{tally-snoc-no, tally-snoc-yes, all-snoc, all-map-not}
+use Rattle.basics.proofs.Basics.{by-bool, clash, update-same, update-other}
+use Rattle.basics.proofs.Lists.{tally-snoc-no, tally-snoc-yes, all-snoc, all-map-not}
 use Rattle.protocol.proofs.Invariant.{Ghost, FREE, OUT, ghost, carriesPermission, isRequestOf, isFailTo, Ascending, InquiryFits, Fits, Owed, Core, Invariant}
 use Rattle.protocol.proofs.Sending.{ordered-snoc, send-transfer}
 use Rattle.protocol.proofs.Fitting.{fits-change}

@@ -9,13 +9,13 @@ use mathlib.Core.List.{List, [], _∷_, _++_}
 use native.Mathlib.Omega.{arith}
 use lib.Dec.{eqb}
 use borrow.Author.Tests.{eqb-true, eqb-false, eq-eqb, ne-eqb}
-use Rattle.protocol.specs.Helpers.{update, tally}
+use Rattle.basics.specs.Helpers.{update, tally}
 use Rattle.protocol.specs.Message.{Message, request, inquire, fail, transfer}
 use Rattle.protocol.specs.Setting.{Setting, SettingLaw}
 use Rattle.protocol.specs.Local.{WAITING, Local, view, send, withArbiter}
 use Rattle.protocol.specs.Arbiter.{headOf, beforeHolder, granted, formerTold, failFormer, inquireOrFail, answers, queuedUp, onRequest}
-use Rattle.protocol.proofs.Basics.{by-bool, clash, and-true, not-of, update-same, update-other, update-update}
-use Rattle.protocol.proofs.Lists.{All, all-map, snoc-pos, snoc-keep, snoc-zero, snoc-none, tally-mono}
+use Rattle.basics.proofs.Basics.{by-bool, clash, and-true, not-of, update-same, update-other, update-update}
+use Rattle.basics.proofs.Lists.{All, all-map, snoc-pos, snoc-keep, snoc-zero, snoc-none, tally-mono}
 use Rattle.protocol.proofs.Invariant.{Ghost, FREE, OUT, HELD, YIELDED, RELEASED, ghost, carriesPermission, isRequestOf, isReturnOf, isHandOver, isFailTo, isInquire, Ordered, Ascending, situation, InquiryFits, Fits, Owed, OwedIn, UnderWayIn, Core, Invariant}
 use Rattle.protocol.proofs.Sending.{send-fail, send-inquire, send-transfer}
 use Rattle.protocol.proofs.Fitting.{handOver-returns, fix, permission-returns, fits-change}

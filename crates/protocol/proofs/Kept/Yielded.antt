@@ -9,14 +9,14 @@ use mathlib.Core.List.{List}
 use native.Mathlib.Omega.{arith}
 use lib.Dec.{eqb}
 use borrow.Author.Tests.{eqb-true, eqb-false, eq-eqb, ne-eqb}
-use Rattle.protocol.specs.Helpers.{update, tally}
+use Rattle.basics.specs.Helpers.{update, tally}
 use Rattle.protocol.specs.Message.{Message, yield}
 use Rattle.protocol.specs.Setting.{Setting}
 use Rattle.protocol.specs.Local.{WAITING, INSIDE, Local, view}
 use Rattle.protocol.specs.Arbiter.{headOf, beforeHolder}
 use Rattle.protocol.specs.Site.{yielded}
-use Rattle.protocol.proofs.Basics.{by-bool}
-use Rattle.protocol.proofs.Lists.{tally-snoc-no, tally-snoc-yes, all-snoc, snoc-zero}
+use Rattle.basics.proofs.Basics.{by-bool}
+use Rattle.basics.proofs.Lists.{tally-snoc-no, tally-snoc-yes, all-snoc, snoc-zero}
 use Rattle.protocol.proofs.Invariant.{Ghost, HELD, YIELDED, ghost, carriesPermission, isRequestOf, isFailTo, Ascending, InquiryFits, Fits, Core, Invariant}
 use Rattle.protocol.proofs.Sending.{ordered-snoc}
 use Rattle.protocol.proofs.Fitting.{fix, all-stage, row-stage}

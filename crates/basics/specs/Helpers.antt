@@ -1,6 +1,6 @@
 -- What the definitions need of tables and lists. A table is a function of the site's number.
 use Prim.Native.Nat.{ℕ, zero, suc}
-use mathlib.Core.Bool.{Bool, true, _&&_, cond}
+use mathlib.Core.Bool.{Bool, true, false, _&&_, _||_, cond}
 use mathlib.Core.List.{List, [], _∷_}
 use mathlib.Core.Option.{Option, none, some}
 use lib.Dec.{eqb}
@@ -9,10 +9,14 @@ use lib.Dec.{eqb}
 unfoldable pub update {ℓ} : {A : Type ℓ} → (ℕ → A) → ℕ → A → ℕ → A
 update f i v k = cond (eqb k i) v (f k)
 
--- of the sites 1 to n: all pass, how many pass
+-- of the sites 1 to n: all pass, one passes, how many pass
 unfoldable pub all : (ℕ → Bool) → ℕ → Bool
 all p zero = true
 all p (suc n) = all p n && p (suc n)
+
+unfoldable pub any : (ℕ → Bool) → ℕ → Bool
+any p zero = false
+any p (suc n) = any p n || p (suc n)
 
 unfoldable pub count : (ℕ → Bool) → ℕ → ℕ
 count p zero = 0

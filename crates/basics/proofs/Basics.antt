@@ -1,13 +1,14 @@
 -- Small laws of tests, tables and counts that the proofs share.
-use Prim.Native.Nat.{ℕ, zero, suc, _≤_, _<_}
+use Prim.Native.Nat.{ℕ, zero, suc, _+_, _≤_, _<_}
 use mathlib.Core.Path.{_≡_, refl, sym, fun-ext}
-use mathlib.Core.Logic.{_⊎_, inl, inr, _≢_}
-use mathlib.Core.Bool.{Bool, true, false, not, _&&_}
+use mathlib.Core.Logic.{_⊎_, inl, inr, ⊎-elim, _≢_}
+use mathlib.Core.Bool.{Bool, true, false, not, _&&_, _||_}
 use native.Mathlib.Omega.{arith}
 use native.Mathlib.Nat.{not-suc-le-zero}
+use native.Mathlib.Numerals.{add-one}
 use lib.Dec.{eqb}
 use borrow.Author.Tests.{eqb-true, eqb-false, eq-eqb, ne-eqb}
-use Rattle.protocol.specs.Helpers.{update, all, count}
+use Rattle.basics.specs.Helpers.{update, all, any, count}
 
 -- the case split on a test, with its equation
 pub by-bool {ℓ} : {C : Type ℓ} (b : Bool) → (b ≡ true → C) → (b ≡ false → C) → C
@@ -21,6 +22,23 @@ clash b p q = let z : _≡_ {A = ℕ} 0 1 = cc in absurd (omega arith)
 pub and-split : (a b : Bool) → a && b ≡ true → (a ≡ true) × (b ≡ true)
 and-split true b e = (refl, e)
 and-split false b e = clash false e refl
+
+pub and-false : (a b : Bool) → a && b ≡ false → (a ≡ false) ⊎ (b ≡ false)
+and-false true b e = inr e
+and-false false b e = inl refl
+
+-- a test that comes second and fails
+pub and-second : (a b : Bool) → b ≡ false → a && b ≡ false
+and-second true b e = e
+and-second false b e = refl
+
+pub or-either : (a b : Bool) → a || b ≡ true → (a ≡ true) ⊎ (b ≡ true)
+or-either true b e = inl refl
+or-either false b e = inr e
+
+pub or-second : (a b : Bool) → b ≡ true → a || b ≡ true
+or-second true b e = refl
+or-second false b e = e
 
 pub and-true : (a b : Bool) → a ≡ true → b ≡ true → a && b ≡ true
 and-true a b e f = rw (e, f)
@@ -65,6 +83,47 @@ all-false f zero e = clash true refl e
 all-false f (suc n) e = by-bool (all f n)
     (λ u. (suc n, omega arith, omega arith, rw u at e))
     (λ u. let (i, l, h, w) = all-false f n u in (i, l, omega arith, w))
+
+-- what each passes, all pass
+pub all-of : (p : ℕ → Bool) (n : ℕ) → ((k : ℕ) → 1 ≤ k → k ≤ n → p k ≡ true) → all p n ≡ true
+unfolding all
+all-of p zero h = refl
+all-of p (suc n) h = rw (all-of p n (λ k a b. h k a (omega arith)), h (suc n) (omega arith) (omega arith))
+
+-- one that fails fails all
+pub all-fails : (p : ℕ → Bool) (n k : ℕ) → 1 ≤ k → k ≤ n → p k ≡ false → all p n ≡ false
+all-fails p n k a b e = by-bool (all p n) (λ t. clash (p k) (all-at p n k t a b) e) (λ t. t)
+
+-- one more, as a loop's turn has it
+pub all-more : (p : ℕ → Bool) (i : ℕ) → all p i ≡ true → p (suc i) ≡ true → all p (i + 1) ≡ true
+unfolding all
+all-more p i a b = rw (add-one, a, b)
+
+-- of two tests that agree on 1 to n
+pub all-same : (p q : ℕ → Bool) (n : ℕ) → ((k : ℕ) → 1 ≤ k → k ≤ n → p k ≡ q k) → all p n ≡ all q n
+unfolding all
+all-same p q zero h = refl
+all-same p q (suc n) h = rw (all-same p q n (λ k a b. h k a (omega arith)), h (suc n) (omega arith) (omega arith))
+
+pub any-at : (p : ℕ → Bool) (n : ℕ) → any p n ≡ true → (k : ℕ) × (1 ≤ k) × (k ≤ n) × (p k ≡ true)
+unfolding any
+any-at p zero e = clash false e refl
+any-at p (suc n) e =
+    ⊎-elim
+    (λ h. let w = any-at p n h in (w .0, w .1, omega arith, w .3))
+    (λ h. (suc n, omega arith, omega arith, h))
+    (or-either (any p n) (p (suc n)) e)
+
+pub any-of : (p : ℕ → Bool) (n k : ℕ) → 1 ≤ k → k ≤ n → p k ≡ true → any p n ≡ true
+unfolding any
+any-of p zero k a b e = absurd (omega arith)
+any-of p (suc n) k a b e =
+    by-bool (eqb k (suc n))
+    (λ q. or-second (any p n) (p (suc n)) (rw (eqb-true k (suc n) q) at e))
+    (λ q. let ne = eqb-false k (suc n) q in rw (any-of p n k a (omega arith) e))
+
+pub any-none : (p : ℕ → Bool) (n : ℕ) → ((k : ℕ) → 1 ≤ k → k ≤ n → p k ≡ false) → any p n ≡ false
+any-none p n h = by-bool (any p n) (λ t. let w = any-at p n t in clash (p (w .0)) (w .3) (h (w .0) (w .1) (w .2))) (λ t. t)
 
 pub count-none : (f : ℕ → Bool) (n : ℕ) → ((k : ℕ) → f k ≡ false) → count f n ≡ 0
 unfolding count

@@ -6,8 +6,8 @@ use mathlib.Core.Bool.{Bool, true, false}
 use mathlib.Core.List.{List, [], _∷_, _++_}
 use mathlib.Core.Option.{some}
 use native.Mathlib.Omega.{arith}
-use Rattle.protocol.specs.Helpers.{tally, first, withoutFirst}
-use Rattle.protocol.proofs.Basics.{by-bool}
+use Rattle.basics.specs.Helpers.{tally, first, withoutFirst}
+use Rattle.basics.proofs.Basics.{by-bool}
 
 -- 1 for a test that passes
 abbrev pub indicator : Bool → ℕ
