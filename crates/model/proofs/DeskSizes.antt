@@ -16,7 +16,7 @@ use Rattle.model.specs.Desk.{waits, hasFailed, heldFor, inquiredFor, wit
 use Rattle.model.specs.Ask.{asked}
 use Rattle.model.specs.Leave.{left}
 use Rattle.model.specs.Arbiter.{holderOf, granted, queuedUp, clockRaised, onRequest, onRelease, onYield}
-use Rattle.model.specs.Site.{failedSet, yielded, allHeld, entered, taken, enteredOrYielded, takes, onReply, remembered, yieldedOrRemembered, onInquire, mustYield, yieldedIf, yieldedUpTo, onFail, onTransfer}
+use Rattle.model.specs.Site.{failedSet, yielded, allHeld, entered, taken, enteredOrYielded, takes, onReply, remembered, yieldedOrRemembered, onInquire, mustYield, yieldedIf, yieldedUpTo, onFail, namesHeld, onTransfer}
 use Rattle.model.specs.Deliver.{delivered}
 use Rattle.model.proofs.Tables.{length-put}
 use Rattle.model.proofs.Machine.{DeskSized}
@@ -78,7 +78,7 @@ module _ (d : Desk) (y : DeskSized d) where
   transfer-sized : (j x n : ℕ) → DeskSized (onTransfer d j x n .desk)
   unfolding onTransfer
   transfer-sized j x n =
-      by-bool (eqb n (heldFor d j))
+      by-bool (namesHeld d j n)
       (λ e. rw e (record { held = y .held; heir = length-put (d .heir) j x ∙ y .heir; inquired = y .inquired; queued = y .queued }))
       (λ e. rw e y)
 

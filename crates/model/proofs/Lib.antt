@@ -13,5 +13,7 @@ pub mod AskLeave
 pub mod Shaped
 pub mod Delivered
 pub mod DeskSizes
+pub mod Plain
 pub mod Reached
 pub mod Theorem
+pub mod Always

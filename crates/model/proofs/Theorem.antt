@@ -10,6 +10,7 @@ use lib.ListN.{length, getD, replicate, getD-replicate}
 use borrow.Author.Tests.{eqb-true, eqb-false, eq-eqb, ne-eqb, not-true}
 use Rattle.basics.specs.Helpers.{count, tally}
 use Rattle.basics.proofs.Basics.{by-bool, clash, and-split}
+use Rattle.basics.proofs.Lists.{All}
 use Rattle.rig.specs.declared.Message.{Message}
 use Rattle.rig.specs.declared.Event.{Event}
 use Rattle.rig.specs.declared.Mode.{Mode}
@@ -70,7 +71,7 @@ fresh-same n sets =
     refl
 
 fresh-reached : (n : ℕ) (sets : List ℕ) (list : List Message) → Accepted n sets → length list ≡ messageLimit → Reached n (keptSets n sets) (fresh n sets list)
-unfolding fresh freshTables freshRig R.run
+unfolding fresh freshTables freshRig R.run All
 fresh-reached n sets list a h = record {
   events = [];
   same = fresh-same n sets;
@@ -80,6 +81,8 @@ fresh-reached n sets list a h = record {
   sized = record { size = a .high; sets = kept-accepted n sets a .long; sites = refl; arbiters = refl; held = square-blank; heir = square-blank; inquired = square-blank; queued = square-blank };
   long = h;
   few = omega arith;
+  bounded = omega arith;
+  plain = tt;
 }
 
 -- a run of the definitions, and the family of its sets
