@@ -8,11 +8,14 @@ use rig::Desk;
 use rig::Message;
 use rig::Rig;
 ghost use mathlib.Core.Path.{_≡_};
+ghost use mathlib.Core.List.{[], _∷_};
 ghost use Prim.Native.Nat.{_+_, _^_, _≤_, _<_};
+ghost use lib.ListN.{length};
 ghost use Rattle.rig.specs.Limits.{siteLimit};
+ghost use Rattle.rig.specs.Messages.{inquire, transfer};
 ghost use Rattle.model.specs.Tables.{at};
-ghost use Rattle.model.specs.Priority.{key, comesBefore, headWith, head};
-ghost use Rattle.model.specs.Arbiter.{holderKey, siteKey, heldBy, withQueued, nextHeir, granted, grantedHead, clockRaised, failFormer, inquireOrFail, answers, queuedUp, onRequest, headNamed, heirTakesOver, holderReleases, fromHolder, isEarly, earlyRelease, onRelease, onYield};
+ghost use Rattle.model.specs.Priority.{key, comesBefore, queuedKey, headWith, head};
+ghost use Rattle.model.specs.Arbiter.{heldBy, withQueued, nextHeir, granted, grantedHead, clockRaised, failFormer, inquireOrFail, answers, queuedUp, onRequest, headNamed, heirTakesOver, holderReleases, fromHolder, isEarly, earlyRelease, onRelease, onYield};
 ghost use Rattle.mail.specs.Did.{Did};
 ghost use Rattle.arbiter.specs.Asks.{Room, Listed};
 ghost use Rattle.arbiter.specs.Sent.{Sent};
@@ -27,8 +30,8 @@ fn comes_before(seq: u64, site: u64, other_seq: u64, other_site: u64) -> bool
     seq < other_seq
 }
 
-// The sequence number queued of site k.
-fn entry(queued: &[u64; Rig::SITES], k: u64) -> u64
+// The sequence number queued of site k, 0 none.
+fn queued_at(queued: &[u64; Rig::SITES], k: u64) -> u64
     requires { ⌜ Listed k ⌝ }
     ensures { λ r. ⌜ r ≡ at 0 (now (queued .entry)) k ⌝ }
 {
@@ -40,14 +43,14 @@ fn head_with(queued: &[u64; Rig::SITES], k: u64, h: u64) -> u64
     requires { ⌜ Listed k × (h ≤ siteLimit) ⌝ }
     ensures { λ r. ⌜ r ≡ headWith (now (queued .entry)) k h ⌝ }
 {
-    let seq = entry(queued, k);
+    let seq = queued_at(queued, k);
     if seq == 0 {
         return h;
     }
     if h == 0 {
         return k;
     }
-    if comes_before(seq, k, entry(queued, h), h) {
+    if comes_before(seq, k, queued_at(queued, h), h) {
         return k;
     }
     h
@@ -89,6 +92,19 @@ fn held_by(d: Desk, g: u64, k: u64, n: u64) -> Desk
     u
 }
 
+// A transfer to the holder that names k, and an inquire to the holder: each carries the holder's grant number.
+fn transfer_of(number: u64, a: Arbiter, k: u64) -> Message
+    ensures { λ r. ⌜ r ≡ transfer number (a .holder) k (a .grant) ⌝ }
+{
+    Message::transfer(number, a.holder, k, a.grant)
+}
+
+fn inquire_of(number: u64, a: Arbiter) -> Message
+    ensures { λ r. ⌜ r ≡ inquire number (a .holder) (a .grant) ⌝ }
+{
+    Message::inquire(number, a.holder, a.grant)
+}
+
 // If the queue isn't empty, a transfer that names the head goes to the holder.
 fn next_heir(d: Desk, out: &mut [Row], count: usize) -> usize
     requires { ⌜ Room d 0 1 count (now out) ⌝ }
@@ -98,11 +114,7 @@ fn next_heir(d: Desk, out: &mut [Row], count: usize) -> usize
     if h == 0 {
         return count;
     }
-    append(
-        out,
-        count,
-        Message::transfer(d.number, d.arbiter.holder, h, d.arbiter.grant),
-    )
+    append(out, count, transfer_of(d.number, d.arbiter, h))
 }
 
 // Grants k, which asked with sequence number n.
@@ -135,7 +147,7 @@ fn grant_head(d: Desk, out: &mut [Row], count: usize) -> Acted
             count: count,
         };
     }
-    let n = entry(&d.queued, h);
+    let n = queued_at(&d.queued, h);
     grant(d, out, count, h, n)
 }
 
@@ -152,11 +164,11 @@ fn clock_raised(d: Desk, n: u64) -> Desk
 }
 
 // Whether queued site k comes before the holder.
-fn before_holder(d: Desk, k: u64) -> bool
+fn before_holder(queued: &[u64; Rig::SITES], a: Arbiter, k: u64) -> bool
     requires { ⌜ Listed k ⌝ }
-    ensures { λ r. ⌜ r ≡ comesBefore (siteKey d k) (holderKey d) ⌝ }
+    ensures { λ r. ⌜ r ≡ comesBefore (queuedKey (now (queued .entry)) k) (key (a .seq) (a .holder)) ⌝ }
 {
-    comes_before(entry(&d.queued, k), k, d.arbiter.seq, d.arbiter.holder)
+    comes_before(queued_at(queued, k), k, a.seq, a.holder)
 }
 
 // A fail to the head before k was queued, if there was one other than k and it comes before the holder.
@@ -170,7 +182,7 @@ fn fail_former(d: Desk, out: &mut [Row], count: usize, k: u64, former: u64) -> u
     if former == k {
         return count;
     }
-    if !before_holder(d, former) {
+    if !before_holder(&d.queued, d.arbiter, former) {
         return count;
     }
     append(out, count, Message::fail(d.number, former))
@@ -181,10 +193,19 @@ fn inquire_or_fail(d: Desk, k: u64) -> Message
     requires { ⌜ Listed k ⌝ }
     ensures { λ r. ⌜ r ≡ inquireOrFail d k ⌝ }
 {
-    if before_holder(d, k) {
-        return Message::inquire(d.number, d.arbiter.holder, d.arbiter.grant);
+    if before_holder(&d.queued, d.arbiter, k) {
+        return inquire_of(d.number, d.arbiter);
     }
     Message::fail(d.number, k)
+}
+
+// Two messages, in this order.
+fn append_two(out: &mut [Row], count: usize, one: Message, other: Message) -> usize
+    requires { ⌜ count + 2 ≤ length (now out) ⌝ }
+    ensures { λ r. ⌜ Sent (one ∷ other ∷ []) count (now (out .entry)) (now (out .exit)) r ⌝ }
+{
+    let next = append(out, count, one);
+    append(out, next, other)
 }
 
 // The answers to k, which has been queued; `former` was the head before, 0 none.
@@ -196,12 +217,9 @@ fn answers(d: Desk, out: &mut [Row], count: usize, k: u64, former: u64) -> usize
         return append(out, count, Message::fail(d.number, k));
     }
     let failed = fail_former(d, out, count, k, former);
-    let named = append(
-        out,
-        failed,
-        Message::transfer(d.number, d.arbiter.holder, k, d.arbiter.grant),
-    );
-    append(out, named, inquire_or_fail(d, k))
+    let named = transfer_of(d.number, d.arbiter, k);
+    let last = inquire_or_fail(d, k);
+    append_two(out, failed, named, last)
 }
 
 // Queues k with sequence number n, while another site holds the permission.
@@ -239,19 +257,11 @@ fn head_named(d: Desk, out: &mut [Row], count: usize) -> usize
     if h == 0 {
         return count;
     }
-    let named = append(
-        out,
-        count,
-        Message::transfer(d.number, d.arbiter.holder, h, d.arbiter.grant),
-    );
-    if !before_holder(d, h) {
+    let named = append(out, count, transfer_of(d.number, d.arbiter, h));
+    if !before_holder(&d.queued, d.arbiter, h) {
         return named;
     }
-    append(
-        out,
-        named,
-        Message::inquire(d.number, d.arbiter.holder, d.arbiter.grant),
-    )
+    append(out, named, inquire_of(d.number, d.arbiter))
 }
 
 // Queued site x, the heir of the holder, which has released, holds the permission now.
@@ -259,7 +269,7 @@ fn heir_takes_over(d: Desk, out: &mut [Row], count: usize, x: u64) -> Acted
     requires { ⌜ Room d 1 2 count (now out) × Listed x ⌝ }
     ensures { λ r. ⌜ Did (heirTakesOver d x) count (now (out .entry)) (now (out .exit)) r ⌝ }
 {
-    let n = entry(&d.queued, x);
+    let n = queued_at(&d.queued, x);
     let u = held_by(requeued(d, x, 0), d.arbiter.grant + 1, x, n);
     let sent = head_named(u, out, count);
     Acted {
@@ -276,7 +286,7 @@ fn holder_releases(d: Desk, out: &mut [Row], count: usize, x: u64) -> Acted
     if x == 0 {
         return grant_head(held_by(d, d.arbiter.grant, 0, 0), out, count);
     }
-    if entry(&d.queued, x) == 0 {
+    if queued_at(&d.queued, x) == 0 {
         return Acted {
             desk: d,
             count: count,
@@ -306,7 +316,7 @@ fn is_early(d: Desk, k: u64, x: u64, n: u64) -> bool
     if x != 0 {
         return false;
     }
-    entry(&d.queued, k) != 0
+    queued_at(&d.queued, k) != 0
 }
 
 // The release of queued site k, which got the permission from the holder.

@@ -27,21 +27,15 @@ returns c = rw (ne-eqb _ _ (rw (c .before .before .before .before .before .head 
 fail-former-requires : tie.Need-fail-former-requires
 fail-former-requires c κs = search needs
 
-transfer-requires : tie.Need-transfer-requires
-transfer-requires c κs = search needs
-
-append-requires-2 : tie.Need-append-requires-2
-append-requires-2 c κs =
-    let a = c .before .before .before .before .before .before .before .before .before .args in
-    let most = fail-former-most (a .t1) (a .k) (a .former) in
-    omega arith
+transfer-of-requires : tie.Need-transfer-of-requires
+transfer-of-requires c κs = search needs
 
 inquire-or-fail-requires : tie.Need-inquire-or-fail-requires
 inquire-or-fail-requires c κs = search needs
 
-append-requires-3 : tie.Need-append-requires-3
-append-requires-3 c κs =
-    let a = c .before .before .before .before .before .before .before .before .before .before .before .before .before .args in
+append-two-requires : tie.Need-append-two-requires
+append-two-requires c κs =
+    let a = c .before .before .before .before .before .before .before .before .before .before .before .args in
     let most = fail-former-most (a .t1) (a .k) (a .former) in
     omega arith
 
@@ -51,9 +45,8 @@ same-length-2 c = search needs
 returns-2 : tie.Need-returns-2
 unfolding answers headOf
 returns-2 c =
-    let named = sent-one (c .before .before .before .before .before .before .transfer .ensures) (c .before .before .before .before .before .append2 .ensures) in
-    let last = sent-one (c .before .before .inquire-or-fail .ensures) (c .before .append3 .ensures) in
-    rw (eq-eqb _ _ (sym (c .before .before .before .before .before .before .before .before .before .before .before .before .head .ensures) ∙ c .before .before .before .before .before .before .before .before .before .before .before .if1 .left)) (sent-more (c .before .before .before .before .before .before .before .before .before .fail-former .ensures) (sent-more named last))
+    let two = rw (c .before .before .before .before .transfer-of .ensures, c .before .before .before .inquire-or-fail .ensures) at (c .before .append-two .ensures) in
+    rw (eq-eqb _ _ (sym (c .before .before .before .before .before .before .before .before .before .before .head .ensures) ∙ c .before .before .before .before .before .before .before .before .before .if1 .left)) (sent-more (c .before .before .before .before .before .before .before .fail-former .ensures) two)
 
 pub answers-spec : {M : Type 1} → statement M
 answers-spec =
@@ -65,9 +58,8 @@ answers-spec =
     same-length
     returns
     fail-former-requires
-    transfer-requires
-    append-requires-2
+    transfer-of-requires
     inquire-or-fail-requires
-    append-requires-3
+    append-two-requires
     same-length-2
     returns-2)

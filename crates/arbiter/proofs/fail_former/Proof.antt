@@ -22,7 +22,7 @@ returns-3 : tie.Need-returns-3
 unfolding failFormer
 returns-3 c =
     let b = sym (c .before .before-holder .ensures) ∙ not-true _ (c .if3 .taken) in
-    rw (ne-eqb _ 0 (c .before .before .before .if1 .left), ne-eqb _ _ (c .before .before .if2 .left), b) sent-none
+    rw (ne-eqb _ 0 (c .before .before .before .before .before .before .if1 .left), ne-eqb _ _ (c .before .before .before .before .before .if2 .left), b) sent-none
 
 fail-requires : tie.Need-fail-requires
 fail-requires c κs = search needs
@@ -37,7 +37,7 @@ returns-4 : tie.Need-returns-4
 unfolding failFormer
 returns-4 c =
     let b = sym (c .before .before .before .before .before .before-holder .ensures) ∙ not-false _ (c .before .before .before .before .if3 .left) in
-    rw (ne-eqb _ 0 (c .before .before .before .before .before .before .before .if1 .left), ne-eqb _ _ (c .before .before .before .before .before .before .if2 .left), b) (sent-one (c .before .before .fail .ensures) (c .before .append .ensures))
+    rw (ne-eqb _ 0 (c .before .before .before .before .before .before .before .before .before .before .if1 .left), ne-eqb _ _ (c .before .before .before .before .before .before .before .before .before .if2 .left), b) (sent-one (c .before .before .fail .ensures) (c .before .append .ensures))
 
 pub fail-former-spec : {M : Type 1} → statement M
 fail-former-spec =

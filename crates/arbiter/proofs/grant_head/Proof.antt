@@ -15,8 +15,8 @@ returns : tie.Need-returns
 unfolding grantedHead headOf
 returns c = rw (eq-eqb _ 0 (sym (c .before .head .ensures) ∙ c .if1 .taken)) (did-sent sent-none)
 
-entry-requires : tie.Need-entry-requires
-entry-requires c κs = head-listed _ _ _ (c .before .before .before .before .before .before .pre .size) (c .before .before .before .head .ensures) (c .before .before .if1 .left)
+queued-at-requires : tie.Need-queued-at-requires
+queued-at-requires c κs = head-listed _ _ _ (c .before .before .before .before .before .before .pre .size) (c .before .before .before .head .ensures) (c .before .before .if1 .left)
 
 grant-requires : tie.Need-grant-requires
 grant-requires c κs = (search needs, head-listed _ _ _ (c .before .before .before .before .before .before .before .before .pre .size) (c .before .before .before .before .before .head .ensures) (c .before .before .before .before .if1 .left))
@@ -28,8 +28,8 @@ returns-2 : tie.Need-returns-2
 unfolding grantedHead headOf
 returns-2 c =
     let e = c .before .before .before .before .before .before .before .head .ensures in
-    rw (ne-eqb _ 0 (rw e at (c .before .before .before .before .before .before .if1 .left))) (rw (c .before .before .before .entry .ensures, e) at (c .before .grant .ensures))
+    rw (ne-eqb _ 0 (rw e at (c .before .before .before .before .before .before .if1 .left))) (rw (c .before .before .before .queued-at .ensures, e) at (c .before .grant .ensures))
 
 pub grant-head-spec : {M : Type 1} → statement M
 grant-head-spec =
-    tie.close (tie.spec head-requires returns entry-requires grant-requires same-length returns-2)
+    tie.close (tie.spec head-requires returns queued-at-requires grant-requires same-length returns-2)

@@ -6,21 +6,21 @@ use Rattle.model.specs.Priority.{headWith}
 use Rattle.arbiter.proofs.head_with.Statement.{statement}
 use Rattle.arbiter.proofs.head_with.Tie as tie
 
-entry-requires : tie.Need-entry-requires
-entry-requires c κs = search needs
+queued-at-requires : tie.Need-queued-at-requires
+queued-at-requires c κs = search needs
 
 returns : tie.Need-returns
 unfolding headWith
-returns c = rw (eq-eqb _ 0 (sym (c .before .entry .ensures) ∙ c .if1 .taken))
+returns c = rw (eq-eqb _ 0 (sym (c .before .queued-at .ensures) ∙ c .if1 .taken))
 
 returns-2 : tie.Need-returns-2
 unfolding headWith
 returns-2 c =
-    let n = rw (c .before .before .entry .ensures) at (c .before .if1 .left) in
+    let n = rw (c .before .before .queued-at .ensures) at (c .before .if1 .left) in
     rw (ne-eqb _ 0 n, eq-eqb _ 0 (c .if2 .taken))
 
-entry-requires-2 : tie.Need-entry-requires-2
-entry-requires-2 c κs = search needs
+queued-at-requires-2 : tie.Need-queued-at-requires-2
+queued-at-requires-2 c κs = search needs
 
 comes-before-requires : tie.Need-comes-before-requires
 comes-before-requires c κs = search needs
@@ -28,27 +28,27 @@ comes-before-requires c κs = search needs
 returns-3 : tie.Need-returns-3
 unfolding headWith
 returns-3 c =
-    let e = c .before .before .before .before .before .entry .ensures in
+    let e = c .before .before .before .before .before .queued-at .ensures in
     let n = rw e at (c .before .before .before .before .if1 .left) in
-    let b = rw (e, c .before .before .entry2 .ensures) at (sym (c .before .comes-before .ensures) ∙ c .if3 .taken) in
+    let b = rw (e, c .before .before .queued-at2 .ensures) at (sym (c .before .comes-before .ensures) ∙ c .if3 .taken) in
     rw (ne-eqb _ 0 n, ne-eqb _ 0 (c .before .before .before .if2 .left), b)
 
 returns-4 : tie.Need-returns-4
 unfolding headWith
 returns-4 c =
-    let e = c .before .before .before .before .before .entry .ensures in
+    let e = c .before .before .before .before .before .queued-at .ensures in
     let n = rw e at (c .before .before .before .before .if1 .left) in
-    let b = rw (e, c .before .before .entry2 .ensures) at (sym (c .before .comes-before .ensures) ∙ c .if3 .left) in
+    let b = rw (e, c .before .before .queued-at2 .ensures) at (sym (c .before .comes-before .ensures) ∙ c .if3 .left) in
     rw (ne-eqb _ 0 n, ne-eqb _ 0 (c .before .before .before .if2 .left), b)
 
 pub head-with-spec : {M : Type 1} → statement M
 head-with-spec =
     tie.close
     (tie.spec
-    entry-requires
+    queued-at-requires
     returns
     returns-2
-    entry-requires-2
+    queued-at-requires-2
     comes-before-requires
     returns-3
     returns-4)

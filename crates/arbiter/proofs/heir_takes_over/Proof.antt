@@ -6,8 +6,8 @@ use Rattle.arbiter.proofs.Sending.{did-sent}
 use Rattle.arbiter.proofs.heir_takes_over.Statement.{statement}
 use Rattle.arbiter.proofs.heir_takes_over.Tie as tie
 
-entry-requires : tie.Need-entry-requires
-entry-requires c κs = search needs
+queued-at-requires : tie.Need-queued-at-requires
+queued-at-requires c κs = search needs
 
 requeued-requires : tie.Need-requeued-requires
 requeued-requires c κs = search needs
@@ -29,14 +29,14 @@ same-length c = search needs
 returns : tie.Need-returns
 unfolding heirTakesOver
 returns c =
-    let u = rw (c .before .before .before .before .requeued .ensures, c .before .before .before .before .before .entry .ensures) at (c .before .before .before .held-by .ensures) in
+    let u = rw (c .before .before .before .before .requeued .ensures, c .before .before .before .before .before .queued-at .ensures) at (c .before .before .before .held-by .ensures) in
     rw u (did-sent (rw u at (c .before .head-named .ensures)))
 
 pub heir-takes-over-spec : {M : Type 1} → statement M
 heir-takes-over-spec =
     tie.close
     (tie.spec
-    entry-requires
+    queued-at-requires
     requeued-requires
     add-held-by
     held-by-requires

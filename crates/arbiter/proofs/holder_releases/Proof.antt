@@ -23,12 +23,12 @@ returns : tie.Need-returns
 unfolding holderReleases
 returns c = rw (eq-eqb _ 0 (c .before .before .before .before .if1 .taken)) (rw (c .before .before .before .held-by .ensures) at (c .before .grant-head .ensures))
 
-entry-requires : tie.Need-entry-requires
-entry-requires c κs = search needs
+queued-at-requires : tie.Need-queued-at-requires
+queued-at-requires c κs = search needs
 
 returns-2 : tie.Need-returns-2
 unfolding holderReleases
-returns-2 c = rw (ne-eqb _ 0 (c .before .before .before .before .if1 .left), eq-eqb _ 0 (sym (c .before .entry .ensures) ∙ c .if2 .taken)) (did-sent sent-none)
+returns-2 c = rw (ne-eqb _ 0 (c .before .before .before .before .if1 .left), eq-eqb _ 0 (sym (c .before .queued-at .ensures) ∙ c .if2 .taken)) (did-sent sent-none)
 
 heir-takes-over-requires : tie.Need-heir-takes-over-requires
 heir-takes-over-requires c κs = search needs
@@ -38,7 +38,7 @@ same-length-2 c = search needs
 
 returns-3 : tie.Need-returns-3
 unfolding holderReleases
-returns-3 c = rw (ne-eqb _ 0 (c .before .before .before .before .before .before .before .if1 .left), ne-eqb _ 0 (rw (c .before .before .before .before .entry .ensures) at (c .before .before .before .if2 .left))) (c .before .heir-takes-over .ensures)
+returns-3 c = rw (ne-eqb _ 0 (c .before .before .before .before .before .before .before .if1 .left), ne-eqb _ 0 (rw (c .before .before .before .before .queued-at .ensures) at (c .before .before .before .if2 .left))) (c .before .heir-takes-over .ensures)
 
 pub holder-releases-spec : {M : Type 1} → statement M
 holder-releases-spec =
@@ -48,7 +48,7 @@ holder-releases-spec =
     grant-head-requires
     same-length
     returns
-    entry-requires
+    queued-at-requires
     returns-2
     heir-takes-over-requires
     same-length-2

@@ -8,12 +8,12 @@ use Rattle.arbiter.proofs.inquire_or_fail.Tie as tie
 before-holder-requires : tie.Need-before-holder-requires
 before-holder-requires c κs = search needs
 
-inquire-requires : tie.Need-inquire-requires
-inquire-requires c κs = search needs
+inquire-of-requires : tie.Need-inquire-of-requires
+inquire-of-requires c κs = search needs
 
 returns : tie.Need-returns
 unfolding inquireOrFail
-returns c = rw (sym (c .before .before .before-holder .ensures) ∙ c .before .if1 .taken) (c .inquire .ensures)
+returns c = rw (sym (c .before .before .before .before-holder .ensures) ∙ c .before .before .if1 .taken) (c .inquire-of .ensures)
 
 fail-requires : tie.Need-fail-requires
 fail-requires c κs = search needs
@@ -24,4 +24,4 @@ returns-2 c = rw (sym (c .before .before .before-holder .ensures) ∙ c .before 
 
 pub inquire-or-fail-spec : {M : Type 1} → statement M
 inquire-or-fail-spec =
-    tie.close (tie.spec before-holder-requires inquire-requires returns fail-requires returns-2)
+    tie.close (tie.spec before-holder-requires inquire-of-requires returns fail-requires returns-2)

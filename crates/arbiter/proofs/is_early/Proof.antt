@@ -16,12 +16,12 @@ returns-2 : tie.Need-returns-2
 unfolding isEarly
 returns-2 c = rw (eq-eqb _ _ (c .before .if1 .left), ne-eqb _ _ (c .if2 .taken))
 
-entry-requires : tie.Need-entry-requires
-entry-requires c κs = search needs
+queued-at-requires : tie.Need-queued-at-requires
+queued-at-requires c κs = search needs
 
 returns-3 : tie.Need-returns-3
 unfolding isEarly
-returns-3 c = rw (eq-eqb _ _ (c .before .before .before .before .if1 .left), eq-eqb _ 0 (c .before .before .before .if2 .left), c .entry .ensures)
+returns-3 c = rw (eq-eqb _ _ (c .before .before .before .before .if1 .left), eq-eqb _ 0 (c .before .before .before .if2 .left), c .queued-at .ensures)
 
 pub is-early-spec : {M : Type 1} → statement M
-is-early-spec = tie.close (tie.spec add-if1 returns returns-2 entry-requires returns-3)
+is-early-spec = tie.close (tie.spec add-if1 returns returns-2 queued-at-requires returns-3)

@@ -14,8 +14,8 @@ returns : tie.Need-returns
 unfolding nextHeir headOf
 returns c = rw (eq-eqb _ 0 (sym (c .before .head .ensures) ∙ c .if1 .taken)) sent-none
 
-transfer-requires : tie.Need-transfer-requires
-transfer-requires c κs = search needs
+transfer-of-requires : tie.Need-transfer-of-requires
+transfer-of-requires c κs = search needs
 
 append-requires : tie.Need-append-requires
 append-requires c κs = search needs
@@ -26,10 +26,10 @@ same-length c = search needs
 returns-2 : tie.Need-returns-2
 unfolding nextHeir headOf
 returns-2 c =
-    let e = c .before .before .before .before .before .head .ensures in
-    rw (ne-eqb _ 0 (rw e at (c .before .before .before .before .if1 .left))) (sent-one (rw e at (c .before .before .transfer .ensures)) (c .before .append .ensures))
+    let e = c .before .before .before .before .before .before .head .ensures in
+    rw (ne-eqb _ 0 (rw e at (c .before .before .before .before .before .if1 .left))) (sent-one (rw e at (c .before .before .transfer-of .ensures)) (c .before .append .ensures))
 
 pub next-heir-spec : {M : Type 1} → statement M
 next-heir-spec =
     tie.close
-    (tie.spec head-requires returns transfer-requires append-requires same-length returns-2)
+    (tie.spec head-requires returns transfer-of-requires append-requires same-length returns-2)
