@@ -19,7 +19,7 @@ same-length : tie.Need-same-length
 same-length c = search needs
 
 returns : tie.Need-returns
-unfolding onRequest
+unfolding onRequest clockRaised
 returns c =
     let u = c .before .before .before .before .before .clock-raised .ensures in
     rw (eq-eqb _ 0 (rw u at (c .before .before .before .if1 .taken))) (rw u at (c .before .grant .ensures))
@@ -34,7 +34,7 @@ same-length-2 : tie.Need-same-length-2
 same-length-2 c = search needs
 
 returns-2 : tie.Need-returns-2
-unfolding onRequest
+unfolding onRequest clockRaised
 returns-2 c =
     let u = c .before .before .before .before .before .clock-raised .ensures in
     rw (ne-eqb _ 0 (rw u at (c .before .before .before .if1 .left))) (rw u at (c .before .queue-up .ensures))
