@@ -1,0 +1,3 @@
+-- Laws that several proofs of this crate cite.
+pub mod Heads
+pub mod Sending
