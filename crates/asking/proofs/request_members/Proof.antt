@@ -1,0 +1,74 @@
+use Prim.Native.Nat.{_+_, _≤_, _-_}
+use mathlib.Core.Path.{_≡_, refl, sym, _∙_}
+use native.Mathlib.Omega.{arith}
+use native.Mathlib.Numerals.{add-one}
+use native.Mathlib.Nat.{le-antisymm}
+use lib.ListN.{length}
+use Rattle.asking.specs.Sent.{Sent}
+use Rattle.model.specs.Ask.{requests}
+use Rattle.asking.proofs.Sends.{sent-none, sent-then, requests-short}
+use borrow.Author.Needs.{needs}
+use Rattle.asking.proofs.request_members.Statement.{statement}
+use Rattle.asking.proofs.request_members.Tie as tie
+use Rattle.asking.proofs.request_members.Reads as reads
+use Rattle.asking.proofs.request_members.Lts as lts
+use Rattle.asking.proofs.request_member.Reads as request-member-reads
+
+abbrev Inv-loop : tie.InvT-loop
+Inv-loop d seq out₀ count n₀ i₀ i-end out n i =
+    (i ≤ d .size) × (i-end ≡ d .size) × (length out ≡ length out₀) × Sent (requests d seq i) count out₀ out n
+
+abbrev μ-loop : tie.MeasureT-loop
+μ-loop d seq out₀ count n₀ i₀ i-end out n i = d .size - i
+
+-- src/lib.rt:56:5
+loop-holds : tie.Need-loop-holds Inv-loop μ-loop
+unfolding requests
+loop-holds c = (omega arith, refl, refl, sent-none _ _)
+
+-- src/lib.rt:57:9
+request-member-requires : tie.Need-request-member-requires Inv-loop μ-loop
+request-member-requires c κs =
+    let l = c .before .before .loop in
+    let a = c .before .before .before .args in
+    let h = requests-short (a .d) (a .seq) (l .i) in
+    let n = l .inv .3 .count in
+    (omega arith, omega arith)
+
+-- src/lib.rt:56:9
+add-i : tie.Need-add-i Inv-loop μ-loop
+add-i c = search needs
+
+-- src/lib.rt:56:5
+loop-less : tie.Need-loop-less Inv-loop μ-loop
+loop-less c = search needs
+
+-- src/lib.rt:56:5
+loop-again : tie.Need-loop-again Inv-loop μ-loop
+unfolding requests
+loop-again c =
+    let l = c .before .before .before .before .loop in
+    let t = c .before .request-member in
+    (omega arith, refl, t .kept .1 .1 .1 .1 .0 ∙ l .inv .2, rw add-one (sent-then (l .inv .3) (t .ensures)))
+
+-- src/lib.rt:51:1
+same-length : tie.Need-same-length Inv-loop μ-loop
+same-length c = c .before .loop .inv .2
+
+-- src/lib.rt:51:1
+returns : tie.Need-returns Inv-loop μ-loop
+returns c = rw (le-antisymm (c .before .loop .inv .0) (c .loop-test .left)) at (c .before .loop .inv .3)
+
+pub request-members-spec : {M : Type 1} → statement M
+request-members-spec =
+    tie.close
+    (tie.spec
+    Inv-loop
+    μ-loop
+    loop-holds
+    request-member-requires
+    add-i
+    loop-less
+    loop-again
+    same-length
+    returns)
