@@ -12,7 +12,7 @@ use Rattle.rig.specs.Messages.{request}
 use Rattle.model.specs.Desk.{has, heldFor, heirFor}
 use Rattle.model.specs.Ask.{requests}
 use Rattle.model.specs.Leave.{handOn, handOns}
-use Rattle.model.proofs.Tests.{by-bool}
+use Rattle.basics.proofs.Basics.{by-bool}
 use Rattle.mail.specs.Rows.{rowOf}
 use Rattle.asking.specs.Sent.{Sent}
 

@@ -6,7 +6,8 @@ use lib.ListN.{replicate}
 use Rattle.rig.specs.declared.Event.{Event}
 use Rattle.rig.specs.declared.Event.the-variants.{Ask, Leave, Deliver}
 use Rattle.rig.specs.Limits.{messageLimit, siteLimit}
-use Rattle.model.specs.Tables.{at, put, cell, all, any, count}
+use Rattle.model.specs.Tables.{at, put, cell}
+use Rattle.basics.specs.Helpers.{all, any, count, first, withoutFirst}
 use Rattle.model.specs.Sets.{member, meet, names}
 use Rattle.model.specs.Setup.{sizeListed, allName, meetsEarlier, allMeet, setupCode, keptSets, freshRig}
 use Rattle.model.specs.State.{freshTables, deskOf, withDesk}
@@ -15,7 +16,7 @@ use Rattle.model.specs.Ask.{requests, asked}
 use Rattle.model.specs.Leave.{handOn, handOns, left}
 use Rattle.model.specs.Arbiter.{headOf, nextHeir, granted, grantedHead, clockRaised, failFormer, inquireOrFail, answers, queuedUp, onRequest, inquireIfBefore, headNamed, heirTakesOver, holderReleases, fromHolder, isEarly, earlyRelease, onRelease, onYield}
 use Rattle.model.specs.Site.{failedSet, yielded, allHeld, entered, taken, enteredOrYielded, takes, onReply, remembered, yieldedOrRemembered, onInquire, mustYield, yieldedIf, yieldedUpTo, onFail, onTransfer}
-use Rattle.model.specs.Deliver.{between, first, withoutFirst, delivered}
+use Rattle.model.specs.Deliver.{between, delivered}
 use Rattle.model.specs.Shape.{isNumber, isGiven, setsShaped, acceptedShaped, modeShaped, siteBlank, siteShaped, sitesShaped, holderShaped, arbiterShaped, arbitersShaped, entryShaped, heldShaped, inquiredShaped, heirShaped, queuedShaped, everywhere, numberShaped, aboutShaped, messageShaped, messagesShaped, tablesShaped, wellShaped}
 use Rattle.model.specs.Event.{actor, sitesNamed, takenOff, attempt, allNumbers, numbersFit, limitCode, blankMessage, padded, accepted, settled, judged, event}
 use Rattle.model.specs.Run.{fresh, waitingCount}

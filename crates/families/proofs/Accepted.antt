@@ -5,7 +5,8 @@ use mathlib.Core.List.{[], _∷_}
 use Prim.Native.Nat.{ℕ, _-_}
 use lib.Dec.{eqb}
 use lib.ListN.{getD}
-use Rattle.model.specs.Tables.{at, all, any}
+use Rattle.model.specs.Tables.{at}
+use Rattle.basics.specs.Helpers.{all, any}
 use Rattle.model.specs.Sets.{member, setOf, meet, names}
 use Rattle.model.specs.Setup.{sizeListed, allName, meetsEarlier, allMeet, setupCode}
 use Rattle.families.specs.declared.Family.{Family}

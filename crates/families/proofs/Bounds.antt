@@ -7,7 +7,7 @@ use native.Mathlib.Omega.{arith}
 use lib.Dec.{eqb}
 use lib.Pow.{pow-lt}
 use Rattle.model.specs.Sets.{setOf}
-use Rattle.model.proofs.Tests.{by-bool}
+use Rattle.basics.proofs.Basics.{by-bool}
 use Rattle.families.specs.declared.Family.{Family}
 use Rattle.families.specs.declared.Family.the-variants.{Grid, Billiard, Plane}
 use Rattle.families.specs.Plane.{firstMatrix}

@@ -7,7 +7,7 @@ use native.Mathlib.Omega.{arith}
 use lib.Dec.{eqb}
 use borrow.Author.Tests.{eq-eqb, le-leb, lt-leb}
 use Rattle.model.specs.Sets.{member, setOf, meet}
-use Rattle.model.proofs.Tables.{any-of}
+use Rattle.basics.proofs.Basics.{any-of}
 use Rattle.families.specs.declared.Family.the-variants.{Grid}
 use Rattle.families.specs.Grid.{gridSize, gridSite, gridRow, gridColumn, gridEntry}
 use Rattle.families.specs.Family.{sizeOf, widthOf, entry, hasSite, setAt}

@@ -5,8 +5,8 @@ use mathlib.Core.Bool.{Bool, true}
 use native.Mathlib.Omega.{arith}
 use lib.Dec.{ltb, leb}
 use borrow.Author.Tests.{leb-true, ltb-true}
-use Rattle.model.specs.Tables.{all}
-use Rattle.model.proofs.Tables.{all-at}
+use Rattle.basics.specs.Helpers.{all}
+use Rattle.basics.proofs.Basics.{all-at}
 use Rattle.families.specs.declared.Family.the-variants.{Billiard}
 use Rattle.families.specs.Billiard.{billiardSize, modFromOne, columnOf, rowOf, firstSite, nextAbove, nextBelow, nextSite, pathSite, stepFits, pathFits, Location}
 use Rattle.families.specs.Family.{computed}

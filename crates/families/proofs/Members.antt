@@ -8,7 +8,7 @@ use lib.Dec.{eqb}
 use lib.Pow.{pow-pos, pow-add, high}
 use borrow.Author.Tests.{eqb-true, eqb-false}
 use Rattle.model.specs.Sets.{member, setOf}
-use Rattle.model.proofs.Tests.{by-bool}
+use Rattle.basics.proofs.Basics.{by-bool}
 use Rattle.families.proofs.Bounds.{set-below}
 
 abbrev bit : Bool → ℕ

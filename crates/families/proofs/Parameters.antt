@@ -6,7 +6,7 @@ use mathlib.Core.Bool.{true, _||_}
 use native.Mathlib.Omega.{arith}
 use lib.Dec.{eqb, leb}
 use borrow.Author.Tests.{eqb-true, leb-true}
-use Rattle.model.proofs.Tests.{and-both, or-either}
+use Rattle.basics.proofs.Basics.{and-split, or-either}
 use Rattle.families.specs.declared.Family.{Family}
 use Rattle.families.specs.declared.Family.the-variants.{Grid, Billiard, Plane}
 use Rattle.families.specs.Family.{listed, computed}
@@ -22,7 +22,7 @@ three P a b d n x y z e =
 -- what holds at each parameter holds of any that is listed
 pub by-side : (P : ℕ → Type 0) → P 1 → P 2 → P 3 → P 4 → P 5 → (s : ℕ) → listed (Grid s) ≡ true → P s
 unfolding listed
-by-side P a b d e f s h = let w = and-both (leb 1 s) (leb s 5) h in up-to-five s (leb-true 1 s (w .0)) (leb-true s 5 (w .1))
+by-side P a b d e f s h = let w = and-split (leb 1 s) (leb s 5) h in up-to-five s (leb-true 1 s (w .0)) (leb-true s 5 (w .1))
   where
     up-to-five : (n : ℕ) → 1 ≤ n → n ≤ 5 → P n
     up-to-five zero l m = absurd (omega arith)

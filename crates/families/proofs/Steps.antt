@@ -5,8 +5,8 @@ use mathlib.Core.Bool.{Bool, true, cond}
 use native.Mathlib.Omega.{arith}
 use lib.Dec.{ltb, leb}
 use borrow.Author.Tests.{lt-ltb, le-ltb, lt-leb, leb-true}
-use Rattle.model.proofs.Tests.{and-both}
-use Rattle.model.proofs.Tables.{all-at}
+use Rattle.basics.proofs.Basics.{and-split}
+use Rattle.basics.proofs.Basics.{all-at}
 use Rattle.families.specs.Billiard.{above, stepFits, pathFits, pathSite, Location}
 
 module _ (q i j k x : ℕ) (h : stepFits q i j k x ≡ true) where
@@ -15,7 +15,7 @@ module _ (q i j k x : ℕ) (h : stepFits q i j k x ≡ true) where
 
   both : (leb x 40 ≡ true) × (cond (above q i j) (cond (ltb k j) long (cond (leb k (q - i)) true long)) long ≡ true)
   unfolding stepFits
-  both = and-both (leb x 40) (cond (above q i j) (cond (ltb k j) long (cond (leb k (q - i)) true long)) long) h
+  both = and-split (leb x 40) (cond (above q i j) (cond (ltb k j) long (cond (leb k (q - i)) true long)) long) h
 
   pub site-most : x ≤ 40
   site-most = leb-true x 40 (both .0)

@@ -4,7 +4,7 @@ use Prim.Native.Nat.{ℕ, zero, suc, pred, _+_, _-_, _*_, _/_, _%_, _≤_, _<_}
 use mathlib.Core.Path.{_≡_}
 use mathlib.Core.Bool.{Bool, true, _&&_, cond}
 use lib.Dec.{eqb, ltb, leb}
-use Rattle.model.specs.Tables.{all}
+use Rattle.basics.specs.Helpers.{all}
 
 abbrev pub billiardSize : ℕ → ℕ
 billiardSize q = (q * q - 1) / 2

@@ -5,7 +5,7 @@ use mathlib.Core.List.{List, [], _∷_, _++_}
 use lib.Dec.{eqb, leb}
 use lib.ListN.{length}
 use Rattle.rig.specs.Limits.{siteLimit}
-use Rattle.model.specs.Tables.{any}
+use Rattle.basics.specs.Helpers.{any}
 use Rattle.model.specs.Sets.{setOf}
 use Rattle.families.specs.declared.Family.{Family}
 use Rattle.families.specs.declared.Family.the-variants.{Grid, Billiard, Plane}

@@ -10,10 +10,10 @@ use native.Mathlib.Nat.{div-lt-iff-lt-mul, zero-div}
 use lib.Arith.{digits-mod}
 use lib.Pow.{pow-pos, mod-pow-add}
 use borrow.Author.Tests.{eqb-true, eqb-false, eq-eqb, ne-eqb, lt-ltb, le-ltb, ltb-true, ltb-false}
-use Rattle.model.specs.Tables.{any}
+use Rattle.basics.specs.Helpers.{any}
 use Rattle.model.specs.Sets.{member, meet, names}
-use Rattle.model.proofs.Tests.{by-bool, clash, and-both, and-second}
-use Rattle.model.proofs.Tables.{any-at, any-of, any-none}
+use Rattle.basics.proofs.Basics.{by-bool, clash, and-split, and-second}
+use Rattle.basics.proofs.Basics.{any-at, any-of, any-none}
 
 -- bit i of the bitwise and is the smaller of the two bits
 and-bit : (a b i : ℕ) → bitAnd a b / 2 ^ i % 2 ≡ min (a / 2 ^ i % 2) (b / 2 ^ i % 2)
@@ -22,7 +22,7 @@ and-bit a b i =
     (digits-mod (bitAnd (a / 2 ^ i / 2) (b / 2 ^ i / 2)) (omega arith))
 
 -- a number below 2 ^ n with no bit is 0
-no-bits : (x n : ℕ) → x < 2 ^ n → ((i : ℕ) → i < n → x / 2 ^ i % 2 ≡ 0) → x ≡ 0
+pub no-bits : (x n : ℕ) → x < 2 ^ n → ((i : ℕ) → i < n → x / 2 ^ i % 2 ≡ 0) → x ≡ 0
 no-bits x zero l h = omega arith
 no-bits x (suc n) l h =
     let top : x / 2 ^ n < 2 = div-lt-iff-lt-mul (pow-pos n) .1 (omega arith) in
@@ -80,4 +80,4 @@ names-empty n = refl
 -- a set that names sites 1 to n only is below 2 ^ n
 pub names-below : (n s : ℕ) → names n s ≡ true → s < 2 ^ n
 unfolding names
-names-below n s e = ltb-true s (2 ^ n) (and-both (not (eqb s 0)) (ltb s (2 ^ n)) e .1)
+names-below n s e = ltb-true s (2 ^ n) (and-split (not (eqb s 0)) (ltb s (2 ^ n)) e .1)

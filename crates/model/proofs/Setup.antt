@@ -9,7 +9,7 @@ use lib.ListN.{length}
 use borrow.Author.Tests.{eqb-true, leb-true, le-leb, lt-leb, not-false}
 use Rattle.rig.specs.Limits.{siteLimit}
 use Rattle.model.specs.Setup.{sizeListed, allName, allMeet, setupCode}
-use Rattle.model.proofs.Tests.{and-both, and-second}
+use Rattle.basics.proofs.Basics.{and-split, and-second}
 
 pub record Accepted (n : ℕ) (sets : List ℕ) : Type 0 where
   pub long : length sets ≡ siteLimit
@@ -30,7 +30,7 @@ accepts n sets e =
     let b = not-coded _ 1 _ (omega arith) (a .1) in
     let c = not-coded _ 2 _ (omega arith) (b .1) in
     let d = not-coded _ 3 _ (omega arith) (c .1) in
-    let size = and-both (leb 1 n) (leb n siteLimit) (not-false _ (b .0)) in
+    let size = and-split (leb 1 n) (leb n siteLimit) (not-false _ (b .0)) in
     record {
       long = eqb-true (length sets) siteLimit (not-false _ (a .0));
       low = leb-true 1 n (size .0);

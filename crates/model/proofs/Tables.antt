@@ -1,16 +1,19 @@
 -- Laws of the definitions of specs/Tables: an entry read by its site's number, and tests over the sites 1 to n.
 use Prim.Native.Nat.{ℕ, zero, suc, _+_, _-_, _≤_, _<_}
-use mathlib.Core.Path.{_≡_, refl, sym, _∙_, ap}
-use mathlib.Core.Logic.{_⊎_, ⊎-elim}
+use mathlib.Core.Path.{_≡_, refl, sym, _∙_, ap, fun-ext}
+use mathlib.Core.Logic.{_⊎_, ⊎-elim, _≢_}
 use mathlib.Core.Bool.{Bool, true, false, _&&_, _||_}
-use mathlib.Core.List.{List}
+use mathlib.Core.List.{List, []}
 use native.Mathlib.Omega.{arith}
 use native.Mathlib.Numerals.{add-one}
 use lib.Dec.{eqb}
-use lib.ListN.{getD, set}
+use lib.ListN.{length, getD, set, replicate, length-set, List·getD-eq-default}
+use lib.Seq.{getD-set-same, getD-set-other, set-getD}
 use borrow.Author.Tests.{eqb-true, eqb-false}
-use Rattle.model.specs.Tables.{at, put, all, any}
-use Rattle.model.proofs.Tests.{by-bool, clash, and-both, and-second, or-either, or-second}
+use Rattle.basics.specs.Helpers.{update}
+use Rattle.model.specs.Tables.{at, put, cell}
+use Rattle.basics.specs.Helpers.{all, any}
+use Rattle.basics.proofs.Basics.{by-bool, clash, and-split, and-second, or-either, or-second}
 
 module _ {A : Type 0} where
   -- the code's index of site k is k - 1
@@ -24,53 +27,71 @@ module _ {A : Type 0} where
   put-write l zero v h = absurd (omega arith)
   put-write l (suc i) v h = let e : i ≡ suc i - 1 = omega arith in ap (λ (j : ℕ). set l j v) e
 
--- what all pass, each passes
-pub all-at : (p : ℕ → Bool) (n k : ℕ) → all p n ≡ true → 1 ≤ k → k ≤ n → p k ≡ true
-unfolding all
-all-at p zero k e a b = absurd (omega arith)
-all-at p (suc n) k e a b =
-    let w = and-both (all p n) (p (suc n)) e in
-    by-bool (eqb k (suc n))
-    (λ q. rw (eqb-true k (suc n) q) (w .1))
-    (λ q. let ne = eqb-false k (suc n) q in all-at p n k (w .0) a (omega arith))
+  pub length-put : (l : List A) (k : ℕ) (v : A) → length (put l k v) ≡ length l
+  unfolding put
+  length-put l zero v = refl
+  length-put l (suc i) v = length-set l i v
 
--- what each passes, all pass
-pub all-of : (p : ℕ → Bool) (n : ℕ) → ((k : ℕ) → 1 ≤ k → k ≤ n → p k ≡ true) → all p n ≡ true
-unfolding all
-all-of p zero h = refl
-all-of p (suc n) h = rw (all-of p n (λ k a b. h k a (omega arith)), h (suc n) (omega arith) (omega arith))
+  -- what stands where after a store
+  pub at-put-same : (d : A) (l : List A) (k : ℕ) (v : A) → 1 ≤ k → k ≤ length l → at d (put l k v) k ≡ v
+  unfolding at put
+  at-put-same d l zero v a b = absurd (omega arith)
+  at-put-same d l (suc i) v a b = getD-set-same l i v d b
 
--- one that fails fails all
-pub all-fails : (p : ℕ → Bool) (n k : ℕ) → 1 ≤ k → k ≤ n → p k ≡ false → all p n ≡ false
-all-fails p n k a b e = by-bool (all p n) (λ t. clash (p k) (all-at p n k t a b) e) (λ t. t)
+  pub at-put-other : (d : A) (l : List A) (k : ℕ) (v : A) (i : ℕ) → i ≢ k → at d (put l k v) i ≡ at d l i
+  unfolding at put
+  at-put-other d l zero v i ne = refl
+  at-put-other d l (suc k) v zero ne = refl
+  at-put-other d l (suc k) v (suc i) ne = getD-set-other l k i v d (λ e. ne (ap suc e))
 
--- one more, as a loop's turn has it
-pub all-more : (p : ℕ → Bool) (i : ℕ) → all p i ≡ true → p (suc i) ≡ true → all p (i + 1) ≡ true
-unfolding all
-all-more p i a b = rw (add-one, a, b)
+  -- a list after a store, as a table that is a function
+  pub at-put : (d : A) (l : List A) (k : ℕ) (v : A) → 1 ≤ k → k ≤ length l → (i : ℕ) → at d (put l k v) i ≡ update (at d l) k v i
+  unfolding update
+  at-put d l k v a b i =
+      by-bool (eqb i k)
+      (λ e. rw (e, eqb-true i k e) (at-put-same d l k v a b))
+      (λ e. rw e (at-put-other d l k v i (eqb-false i k e)))
 
--- of two tests that agree on 1 to n
-pub all-same : (p q : ℕ → Bool) (n : ℕ) → ((k : ℕ) → 1 ≤ k → k ≤ n → p k ≡ q k) → all p n ≡ all q n
-unfolding all
-all-same p q zero h = refl
-all-same p q (suc n) h = rw (all-same p q n (λ k a b. h k a (omega arith)), h (suc n) (omega arith) (omega arith))
+  -- what stands there already is stored
+  pub put-self : (d : A) (l : List A) (k : ℕ) → put l k (at d l k) ≡ l
+  unfolding at put
+  put-self d l zero = refl
+  put-self d l (suc i) = set-getD l i d
 
-pub any-at : (p : ℕ → Bool) (n : ℕ) → any p n ≡ true → (k : ℕ) × (1 ≤ k) × (k ≤ n) × (p k ≡ true)
-unfolding any
-any-at p zero e = clash false e refl
-any-at p (suc n) e =
-    ⊎-elim
-    (λ h. let w = any-at p n h in (w .0, w .1, omega arith, w .3))
-    (λ h. (suc n, omega arith, omega arith, h))
-    (or-either (any p n) (p (suc n)) e)
+  -- past a list's end
+  pub at-past : (d : A) (l : List A) (k : ℕ) → length l < k → at d l k ≡ d
+  unfolding at
+  at-past d l zero h = refl
+  at-past d l (suc i) h = List·getD-eq-default l d (omega arith)
 
-pub any-of : (p : ℕ → Bool) (n k : ℕ) → 1 ≤ k → k ≤ n → p k ≡ true → any p n ≡ true
-unfolding any
-any-of p zero k a b e = absurd (omega arith)
-any-of p (suc n) k a b e =
-    by-bool (eqb k (suc n))
-    (λ q. or-second (any p n) (p (suc n)) (rw (eqb-true k (suc n) q) at e))
-    (λ q. let ne = eqb-false k (suc n) q in rw (any-of p n k a (omega arith) e))
+  -- a list of one value
+  pub at-same : (d : A) (n k : ℕ) → at d (replicate n d) k ≡ d
+  unfolding at
+  at-same d n zero = refl
+  at-same d n (suc i) = all-same-value n i
+    where
+      all-same-value : (m i : ℕ) → getD (replicate m d) i d ≡ d
+      all-same-value zero i = refl
+      all-same-value (suc m) zero = refl
+      all-same-value (suc m) (suc i) = all-same-value m i
 
-pub any-none : (p : ℕ → Bool) (n : ℕ) → ((k : ℕ) → 1 ≤ k → k ≤ n → p k ≡ false) → any p n ≡ false
-any-none p n h = by-bool (any p n) (λ t. let w = any-at p n t in clash (p (w .0)) (w .3) (h (w .0) (w .1) (w .2))) (λ t. t)
+-- a column of a table after row b was stored
+pub cell-put : (t : List (List ℕ)) (b : ℕ) (row : List ℕ) → 1 ≤ b → b ≤ length t → (j k : ℕ) → cell (put t b row) k j ≡ update (λ i. cell t i j) b (at 0 row j) k
+unfolding cell update
+cell-put t b row lo hi j k =
+    by-bool (eqb k b)
+    (λ e. rw (e, eqb-true k b e, at-put-same [] t b row lo hi))
+    (λ e. rw (e, at-put-other [] t b row k (eqb-false k b e)))
+
+-- a table whose every row is as long as there are places for sites
+pub record Square (n : ℕ) (t : List (List ℕ)) : Type 0 where
+  pub rows : length t ≡ n
+  pub columns : (k : ℕ) → 1 ≤ k → k ≤ n → length (at [] t k) ≡ n
+
+pub square-put : (n : ℕ) (t : List (List ℕ)) (k : ℕ) (r : List ℕ) → Square n t → 1 ≤ k → k ≤ n → length r ≡ n → Square n (put t k r)
+square-put n t k r s a b e = record {
+  rows = length-put t k r ∙ s .rows;
+  columns = λ i c d. by-bool (eqb i k)
+      (λ q. let w = eqb-true i k q in rw w (rw (at-put-same [] t k r a (omega (arith, s .rows))) e))
+      (λ q. rw (at-put-other [] t k r i (eqb-false i k q)) (s .columns i c d));
+}

@@ -1,8 +1,7 @@
 -- Document 01, "One event": the delivery.
 use Prim.Native.Nat.{ℕ}
 use mathlib.Core.Bool.{Bool, _&&_, cond}
-use mathlib.Core.List.{List, [], _∷_}
-use mathlib.Core.Option.{Option, none, some}
+use mathlib.Core.List.{[]}
 use lib.Dec.{eqb}
 use Rattle.rig.specs.declared.Desk.{Desk}
 use Rattle.rig.specs.declared.Message.{Message}
@@ -11,19 +10,9 @@ use Rattle.model.specs.Desk.{Effect, effect}
 use Rattle.model.specs.Arbiter.{onRequest, onRelease, onYield}
 use Rattle.model.specs.Site.{onReply, onInquire, onFail, onTransfer}
 
--- the message goes from a to b
+-- "Messages from a to b": the message goes from a to b
 unfoldable pub between : ℕ → ℕ → Message → Bool
 between a b m = eqb a (m .from) && eqb b (m .to)
-
--- "The first message from a to b"
-unfoldable pub first : ℕ → ℕ → List Message → Option Message
-first a b [] = none
-first a b (m ∷ ms) = cond (between a b m) (some m) (first a b ms)
-
--- "is taken off"
-unfoldable pub withoutFirst : ℕ → ℕ → List Message → List Message
-withoutFirst a b [] = []
-withoutFirst a b (m ∷ ms) = cond (between a b m) ms (m ∷ withoutFirst a b ms)
 
 -- what the receiver does with a message, each kind by its rule; "A message that fits no rule is taken off and does nothing else."
 unfoldable pub delivered : Desk → Message → Effect

@@ -5,6 +5,7 @@ use mathlib.Core.List.{List, [], _∷_, _++_}
 use mathlib.Core.Option.{Option, none, some}
 use lib.Dec.{eqb, leb, ltb}
 use lib.ListN.{length, take, replicate}
+use Rattle.basics.specs.Helpers.{first, withoutFirst}
 use Rattle.rig.specs.declared.Message.{Message}
 use Rattle.rig.specs.declared.Event.{Event}
 use Rattle.rig.specs.declared.Event.the-variants.{Ask, Leave, Deliver}
@@ -13,7 +14,7 @@ use Rattle.model.specs.State.{Tables, inRange, modeOf, isResting, isInsi
 use Rattle.model.specs.Desk.{Effect}
 use Rattle.model.specs.Ask.{asked}
 use Rattle.model.specs.Leave.{left}
-use Rattle.model.specs.Deliver.{first, withoutFirst, delivered}
+use Rattle.model.specs.Deliver.{between, delivered}
 use Rattle.model.specs.Shape.{isNumber, wellShaped}
 
 -- the site at which an event happens: the asker, the leaver or the receiver
@@ -33,7 +34,7 @@ pub data Attempt : Type 0 where
   refused : ℕ → Attempt
   possible : Effect → List Message → Attempt
 
--- "7 for a delivery where nothing is under way from a to b"
+-- "The first message from a to b is taken off"; "7 for a delivery where nothing is under way from a to b"
 unfoldable pub takenOff : Tables → ℕ → Option Message → List Message → Attempt
 takenOff t b none rest = refused 7
 takenOff t b (some m) rest = possible (delivered (deskOf t b) m) rest
@@ -42,7 +43,7 @@ takenOff t b (some m) rest = possible (delivered (deskOf t b) m) rest
 unfoldable pub attempt : Tables → List Message → Event → Attempt
 attempt t ms (Ask s) = cond (isResting (modeOf t s)) (possible (asked (deskOf t s)) ms) (refused 5)
 attempt t ms (Leave s) = cond (isInside (modeOf t s)) (possible (left (deskOf t s)) ms) (refused 6)
-attempt t ms (Deliver a b) = takenOff t b (first a b ms) (withoutFirst a b ms)
+attempt t ms (Deliver a b) = takenOff t b (first (between a b) ms) (withoutFirst (between a b) ms)
 
 unfoldable pub allNumbers : List Message → Bool
 allNumbers [] = true

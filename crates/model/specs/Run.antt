@@ -1,5 +1,5 @@
 -- A run of events, and demand 3 for it.
-use Prim.Native.Nat.{ℕ, zero, suc, _+_, _≤_}
+use Prim.Native.Nat.{ℕ, _+_, _≤_}
 use mathlib.Core.Path.{_≡_}
 use mathlib.Core.Bool.{Bool, not, _&&_, _||_, cond}
 use mathlib.Core.List.{List, [], _∷_}
@@ -9,7 +9,7 @@ use Rattle.rig.specs.declared.Message.{Message}
 use Rattle.rig.specs.declared.Event.{Event}
 use Rattle.rig.specs.Limits.{messageLimit}
 use Rattle.rig.specs.Messages.{REPLY, RELEASE, YIELD}
-use Rattle.model.specs.Tables.{any, count}
+use Rattle.basics.specs.Helpers.{count, tally}
 use Rattle.model.specs.Setup.{setupCode}
 use Rattle.model.specs.State.{Tables, sizeOf, modeOf, isInside, isWaiting, arbiterOf, heldOf, freshTables}
 use Rattle.model.specs.Event.{Stored, underWay, event}
@@ -22,11 +22,6 @@ fresh n sets list = record { tables = freshTables n sets; list = list; count = 0
 unfoldable pub run : Stored → List Event → Stored
 run s [] = s
 run s (e ∷ es) = run (event s e .next) es
-
--- how many messages pass
-unfoldable pub tally : (Message → Bool) → List Message → ℕ
-tally p [] = 0
-tally p (m ∷ ms) = cond (p m) (suc (tally p ms)) (tally p ms)
 
 -- "Places of arbiter j's permission, counted together: free, if j has no holder;"
 unfoldable pub freeAt : Tables → ℕ → ℕ

@@ -2,7 +2,7 @@
 use Prim.Native.Nat.{ℕ, zero, suc, _+_, _/_, _%_, _^_}
 use mathlib.Core.Bool.{Bool, false, not, _&&_, cond}
 use lib.Dec.{eqb, ltb}
-use Rattle.model.specs.Tables.{any}
+use Rattle.basics.specs.Helpers.{any}
 
 -- "A set is an unsigned 64-bit entry: its bit n − 1, the lowest being bit 0, stands for site n."
 unfoldable pub member : ℕ → ℕ → Bool

@@ -9,7 +9,8 @@ use Rattle.rig.specs.declared.Site.{Site}
 use Rattle.rig.specs.declared.Arbiter.{Arbiter}
 use Rattle.rig.specs.declared.Mode.the-variants.{Rest}
 use Rattle.rig.specs.Limits.{siteLimit}
-use Rattle.model.specs.Tables.{at, all}
+use Rattle.model.specs.Tables.{at}
+use Rattle.basics.specs.Helpers.{all}
 use Rattle.model.specs.Sets.{names, meet}
 
 -- "N from 1 to 31"

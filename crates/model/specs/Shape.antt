@@ -15,7 +15,8 @@ use Rattle.rig.specs.declared.Mode.the-variants.{Rest, Waiting, Inside}
 use Rattle.rig.specs.declared.Message.{Message}
 use Rattle.rig.specs.Limits.{siteLimit, messageLimit, eventLimit, numberLimit}
 use Rattle.rig.specs.Messages.{REQUEST, REPLY, RELEASE, INQUIRE, FAIL, YIELD, TRANSFER}
-use Rattle.model.specs.Tables.{at, all}
+use Rattle.model.specs.Tables.{at}
+use Rattle.basics.specs.Helpers.{all}
 use Rattle.model.specs.Setup.{setupCode}
 use Rattle.model.specs.State.{Tables, sizeOf, inRange, hasMember, siteOf, modeOf, isResting, arbiterOf, heldOf, heirOf, inquiredOf, queuedOf}
 

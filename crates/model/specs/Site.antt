@@ -7,7 +7,8 @@ use Rattle.rig.specs.declared.Desk.{Desk}
 use Rattle.rig.specs.declared.Mode.the-variants.{Waiting, Inside}
 use Rattle.rig.specs.Limits.{blankRow}
 use Rattle.rig.specs.Messages.{yield}
-use Rattle.model.specs.Tables.{put, all}
+use Rattle.model.specs.Tables.{put}
+use Rattle.basics.specs.Helpers.{all}
 use Rattle.model.specs.State.{seqIn}
 use Rattle.model.specs.Desk.{Effect, effect, has, waits, hasFailed, heldFor, inquiredFor, withMode, withEntries, withoutEntry}
 

@@ -1,6 +1,5 @@
 -- How the definitions read and write a table: sites are numbered from 1, so site n has the entry at index n - 1.
 use Prim.Native.Nat.{ℕ, zero, suc}
-use mathlib.Core.Bool.{Bool, true, false, _&&_, _||_, cond}
 use mathlib.Core.List.{List, []}
 use lib.ListN.{getD, set}
 
@@ -18,16 +17,3 @@ module _ {A : Type 0} where
 -- row k, column j of a table of numbers
 unfoldable pub cell : List (List ℕ) → ℕ → ℕ → ℕ
 cell t k j = at 0 (at [] t k) j
-
--- of the sites 1 to n: all pass, one passes, how many pass
-unfoldable pub all : (ℕ → Bool) → ℕ → Bool
-all p zero = true
-all p (suc n) = all p n && p (suc n)
-
-unfoldable pub any : (ℕ → Bool) → ℕ → Bool
-any p zero = false
-any p (suc n) = any p n || p (suc n)
-
-unfoldable pub count : (ℕ → Bool) → ℕ → ℕ
-count p zero = 0
-count p (suc n) = cond (p (suc n)) (suc (count p n)) (count p n)

@@ -2,7 +2,7 @@
 use mathlib.Core.Path.{sym, _∙_}
 use borrow.Author.Tests.{eq-eqb, ne-eqb}
 use borrow.Author.Needs.{needs}
-use Rattle.model.proofs.Tests.{or-second}
+use Rattle.basics.proofs.Basics.{or-second}
 use Rattle.families.specs.declared.Family.the-variants.{Billiard}
 use Rattle.families.specs.Family.{listed, computed, billiardSet}
 use Rattle.families.proofs.Parameters.{listed-computed}

@@ -8,8 +8,8 @@ use native.Mathlib.Omega.{arith}
 use lib.Dec.{eqb}
 use borrow.Author.Tests.{eq-eqb, ne-eqb}
 use borrow.Author.Needs.{needs}
-use Rattle.model.proofs.Tables.{any-of}
-use Rattle.model.specs.Tables.{any}
+use Rattle.basics.proofs.Basics.{any-of}
+use Rattle.basics.specs.Helpers.{any}
 use Rattle.families.specs.Family.{entry, hasSite}
 use Rattle.families.proofs.has_site.Statement.{statement}
 use Rattle.families.proofs.has_site.Tie as tie

@@ -7,9 +7,9 @@ use native.Mathlib.Nat.{le-antisymm}
 use native.Mathlib.Numerals.{add-one}
 use borrow.Author.Needs.{needs}
 use borrow.Author.Tests.{not-true, not-false}
-use Rattle.model.specs.Tables.{all}
+use Rattle.basics.specs.Helpers.{all}
 use Rattle.model.specs.Setup.{meetsEarlier, allMeet}
-use Rattle.model.proofs.Tables.{all-fails, all-more}
+use Rattle.basics.proofs.Basics.{all-fails, all-more}
 use Rattle.setup.proofs.all_meet.Statement.{statement}
 use Rattle.setup.proofs.all_meet.Tie as tie
 use Rattle.setup.proofs.all_meet.Reads as reads

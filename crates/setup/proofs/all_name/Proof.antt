@@ -6,10 +6,11 @@ use native.Mathlib.Omega.{arith}
 use native.Mathlib.Nat.{le-antisymm}
 use borrow.Author.Needs.{needs}
 use borrow.Author.Tests.{not-true, not-false}
-use Rattle.model.specs.Tables.{at, all}
+use Rattle.model.specs.Tables.{at}
+use Rattle.basics.specs.Helpers.{all}
 use Rattle.model.specs.Sets.{names}
 use Rattle.model.specs.Setup.{allName}
-use Rattle.model.proofs.Tables.{all-fails, all-more}
+use Rattle.basics.proofs.Basics.{all-fails, all-more}
 use Rattle.setup.proofs.all_name.Statement.{statement}
 use Rattle.setup.proofs.all_name.Tie as tie
 use Rattle.setup.proofs.all_name.Reads as reads

@@ -12,10 +12,11 @@ use denote.Ref.{now}
 use lib.Bits.{bitAnd}
 use lib.Dec.{eqb}
 use lib.ListN.{getD}
-use Rattle.model.specs.Tables.{at, all}
+use Rattle.model.specs.Tables.{at}
+use Rattle.basics.specs.Helpers.{all}
 use Rattle.model.specs.Sets.{meet}
 use Rattle.model.specs.Setup.{allName, meetsEarlier}
-use Rattle.model.proofs.Tables.{all-at, all-fails, all-more}
+use Rattle.basics.proofs.Basics.{all-at, all-fails, all-more}
 use Rattle.model.proofs.Sets.{meet-and, names-below}
 use Rattle.setup.proofs.meets_earlier.Statement.{statement}
 use Rattle.setup.proofs.meets_earlier.Tie as tie

@@ -1,0 +1,195 @@
+-- Small laws of tests, tables and counts that the proofs share.
+use Prim.Native.Nat.{ℕ, zero, suc, _+_, _≤_, _<_}
+use mathlib.Core.Path.{_≡_, refl, sym, fun-ext}
+use mathlib.Core.Logic.{_⊎_, inl, inr, ⊎-elim, _≢_}
+use mathlib.Core.Bool.{Bool, true, false, not, _&&_, _||_}
+use native.Mathlib.Omega.{arith}
+use native.Mathlib.Nat.{not-suc-le-zero}
+use native.Mathlib.Numerals.{add-one}
+use lib.Dec.{eqb}
+use borrow.Author.Tests.{eqb-true, eqb-false, eq-eqb, ne-eqb}
+use Rattle.basics.specs.Helpers.{update, all, any, count}
+
+-- the case split on a test, with its equation
+pub by-bool {ℓ} : {C : Type ℓ} (b : Bool) → (b ≡ true → C) → (b ≡ false → C) → C
+by-bool true f g = f refl
+by-bool false f g = g refl
+
+-- a test cannot come out both ways
+pub clash {ℓ} : {C : Type ℓ} (b : Bool) → b ≡ true → b ≡ false → C
+clash b p q = let z : _≡_ {A = ℕ} 0 1 = cc in absurd (omega arith)
+
+pub and-split : (a b : Bool) → a && b ≡ true → (a ≡ true) × (b ≡ true)
+and-split true b e = (refl, e)
+and-split false b e = clash false e refl
+
+pub and-false : (a b : Bool) → a && b ≡ false → (a ≡ false) ⊎ (b ≡ false)
+and-false true b e = inr e
+and-false false b e = inl refl
+
+-- a test that comes second and fails
+pub and-second : (a b : Bool) → b ≡ false → a && b ≡ false
+and-second true b e = e
+and-second false b e = refl
+
+pub or-either : (a b : Bool) → a || b ≡ true → (a ≡ true) ⊎ (b ≡ true)
+or-either true b e = inl refl
+or-either false b e = inr e
+
+pub or-second : (a b : Bool) → b ≡ true → a || b ≡ true
+or-second true b e = refl
+or-second false b e = e
+
+pub and-true : (a b : Bool) → a ≡ true → b ≡ true → a && b ≡ true
+and-true a b e f = rw (e, f)
+
+pub not-of : (a : Bool) → a ≡ false → not a ≡ true
+not-of a e = rw e
+
+-- Tables
+
+pub update-same {ℓ} : {A : Type ℓ} (f : ℕ → A) (i : ℕ) (v : A) → update f i v i ≡ v
+unfolding update
+update-same f i v = rw (eq-eqb i i refl)
+
+pub update-other {ℓ} : {A : Type ℓ} (f : ℕ → A) (i : ℕ) (v : A) (j : ℕ) → j ≢ i → update f i v j ≡ f j
+unfolding update
+update-other f i v j h = rw (ne-eqb j i h)
+
+-- two updates at one place
+pub update-update : (f : ℕ → ℕ) (i a b : ℕ) → update (update f i a) i b ≡ update f i b
+unfolding update
+update-update f i a b = fun-ext (λ k. by-bool (eqb k i) (λ e. rw e) (λ e. rw e))
+
+-- a mark that is set already
+pub update-marked : (f : ℕ → Bool) (b : ℕ) → f b ≡ true → update f b true ≡ f
+unfolding update
+update-marked f b e = fun-ext (λ k. by-bool (eqb k b) (λ u. rw (u, eqb-true k b u) (sym e)) (λ u. rw u))
+
+-- Tests of the sites 1 to n
+
+pub all-at : (f : ℕ → Bool) (n i : ℕ) → all f n ≡ true → 1 ≤ i → i ≤ n → f i ≡ true
+unfolding all
+all-at f zero i e l u = absurd (omega arith)
+all-at f (suc n) i e l u =
+    let p = and-split (all f n) (f (suc n)) e in
+    by-bool (eqb i (suc n))
+    (λ q. rw (eqb-true i (suc n) q) (p .1))
+    (λ q. let ne = eqb-false i (suc n) q in all-at f n i (p .0) l (omega arith))
+
+pub all-false : (f : ℕ → Bool) (n : ℕ) → all f n ≡ false → (i : ℕ) × (1 ≤ i) × (i ≤ n) × (f i ≡ false)
+unfolding all
+all-false f zero e = clash true refl e
+all-false f (suc n) e = by-bool (all f n)
+    (λ u. (suc n, omega arith, omega arith, rw u at e))
+    (λ u. let (i, l, h, w) = all-false f n u in (i, l, omega arith, w))
+
+-- what each passes, all pass
+pub all-of : (p : ℕ → Bool) (n : ℕ) → ((k : ℕ) → 1 ≤ k → k ≤ n → p k ≡ true) → all p n ≡ true
+unfolding all
+all-of p zero h = refl
+all-of p (suc n) h = rw (all-of p n (λ k a b. h k a (omega arith)), h (suc n) (omega arith) (omega arith))
+
+-- one that fails fails all
+pub all-fails : (p : ℕ → Bool) (n k : ℕ) → 1 ≤ k → k ≤ n → p k ≡ false → all p n ≡ false
+all-fails p n k a b e = by-bool (all p n) (λ t. clash (p k) (all-at p n k t a b) e) (λ t. t)
+
+-- one more, as a loop's turn has it
+pub all-more : (p : ℕ → Bool) (i : ℕ) → all p i ≡ true → p (suc i) ≡ true → all p (i + 1) ≡ true
+unfolding all
+all-more p i a b = rw (add-one, a, b)
+
+-- of two tests that agree on 1 to n
+pub all-same : (p q : ℕ → Bool) (n : ℕ) → ((k : ℕ) → 1 ≤ k → k ≤ n → p k ≡ q k) → all p n ≡ all q n
+unfolding all
+all-same p q zero h = refl
+all-same p q (suc n) h = rw (all-same p q n (λ k a b. h k a (omega arith)), h (suc n) (omega arith) (omega arith))
+
+pub any-at : (p : ℕ → Bool) (n : ℕ) → any p n ≡ true → (k : ℕ) × (1 ≤ k) × (k ≤ n) × (p k ≡ true)
+unfolding any
+any-at p zero e = clash false e refl
+any-at p (suc n) e =
+    ⊎-elim
+    (λ h. let w = any-at p n h in (w .0, w .1, omega arith, w .3))
+    (λ h. (suc n, omega arith, omega arith, h))
+    (or-either (any p n) (p (suc n)) e)
+
+pub any-of : (p : ℕ → Bool) (n k : ℕ) → 1 ≤ k → k ≤ n → p k ≡ true → any p n ≡ true
+unfolding any
+any-of p zero k a b e = absurd (omega arith)
+any-of p (suc n) k a b e =
+    by-bool (eqb k (suc n))
+    (λ q. or-second (any p n) (p (suc n)) (rw (eqb-true k (suc n) q) at e))
+    (λ q. let ne = eqb-false k (suc n) q in rw (any-of p n k a (omega arith) e))
+
+pub any-none : (p : ℕ → Bool) (n : ℕ) → ((k : ℕ) → 1 ≤ k → k ≤ n → p k ≡ false) → any p n ≡ false
+any-none p n h = by-bool (any p n) (λ t. let w = any-at p n t in clash (p (w .0)) (w .3) (h (w .0) (w .1) (w .2))) (λ t. t)
+
+pub count-none : (f : ℕ → Bool) (n : ℕ) → ((k : ℕ) → f k ≡ false) → count f n ≡ 0
+unfolding count
+count-none f zero h = refl
+count-none f (suc n) h = rw (h (suc n)) (count-none f n h)
+
+pub count-one : (f : ℕ → Bool) (i n : ℕ) → 1 ≤ i → f i ≡ true → ((k : ℕ) → k ≢ i → f k ≡ false) → i ≤ n → count f n ≡ 1
+unfolding count
+count-one f i zero l e h u = absurd (omega arith)
+count-one f i (suc n) l e h u = by-bool (eqb i (suc n))
+    (λ q. let w = eqb-true i (suc n) q in rw (← w) (rw e (omega (arith, below n (omega arith)))))
+    (λ q. let ne = eqb-false i (suc n) q in rw (h (suc n) (λ z. ne (sym z))) (count-one f i n l e h (omega arith)))
+  where
+    below : (m : ℕ) → m < i → count f m ≡ 0
+    below zero g = refl
+    below (suc m) g = rw (h (suc m) (λ z. omega arith)) (below m (omega arith))
+
+pub count-some : (f : ℕ → Bool) (n : ℕ) → count f n ≢ 0 → (k : ℕ) × (f k ≡ true)
+unfolding count
+count-some f zero h = absurd (h refl)
+count-some f (suc n) h = by-bool (f (suc n)) (λ e. (suc n, e)) (λ e. count-some f n (rw e at h))
+
+-- of the marked sites there is one before which no marked site comes
+module _ (before : ℕ → ℕ → Bool) (irreflexive : (x : ℕ) → before x x ≡ false) (transitive : (x y z : ℕ) → before x y ≡ true → before y z ≡ true → before x z ≡ true) where
+  pub record Least (p : ℕ → Bool) (n : ℕ) : Type 0 where
+    pub at : ℕ
+    pub siteInRange : at < n
+    pub marked : p at ≡ true
+    pub first : (j : ℕ) → j < n → p j ≡ true → before j at ≡ false
+
+  pub least : (p : ℕ → Bool) (n : ℕ) → Least p n ⊎ ((j : ℕ) → j < n → p j ≡ false)
+  least p zero = inr (λ j l. absurd (not-suc-le-zero l))
+  least p (suc n) = go (least p n)
+    where
+      low : (j : ℕ) → j < suc n → j ≢ n → j < n
+      low j l ne = omega arith
+
+      go : Least p n ⊎ ((j : ℕ) → j < n → p j ≡ false) → Least p (suc n) ⊎ ((j : ℕ) → j < suc n → p j ≡ false)
+      go (inr nowhere) = by-bool (p n)
+          (λ h. inl (record {
+            at = n;
+            siteInRange = omega arith;
+            marked = h;
+            first = λ j l m. by-bool (eqb j n)
+                (λ q. rw (eqb-true j n q) (irreflexive n))
+                (λ q. clash (p j) m (nowhere j (low j l (eqb-false j n q))));
+          }))
+          (λ h. inr (λ j l. by-bool (eqb j n)
+          (λ q. rw (eqb-true j n q) h)
+          (λ q. nowhere j (low j l (eqb-false j n q)))))
+      go (inl b) = by-bool (p n && before n b.at)
+          (λ h. let w = and-split _ _ h in inl (record {
+            at = n;
+            siteInRange = omega arith;
+            marked = w .0;
+            first = λ j l m. by-bool (eqb j n)
+                (λ q. rw (eqb-true j n q) (irreflexive n))
+                (λ q. by-bool (before j n)
+                (λ c. clash (before j b.at) (transitive j n b.at c (w .1)) (b.first j (low j l (eqb-false j n q)) m))
+                (λ c. c));
+          }))
+          (λ h. inl (record {
+            at = b.at;
+            siteInRange = omega arith;
+            marked = b.marked;
+            first = λ j l m. by-bool (eqb j n)
+                (λ q. let jn = eqb-true j n q in rw jn (rw (rw jn at m) at h))
+                (λ q. b.first j (low j l (eqb-false j n q)) m);
+          }))
