@@ -16,7 +16,6 @@ use Rattle.basics.proofs.Basics.{by-bool}
 use Rattle.mail.specs.Rows.{rowOf}
 use Rattle.asking.specs.Sent.{Sent}
 
-
 -- nothing is sent
 pub sent-none : (n : ℕ) (rows : List (List ℕ)) → Sent [] n rows rows n
 sent-none n rows = record { count = omega arith; sent = sym (append-nil (take n rows)) }

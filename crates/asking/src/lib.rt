@@ -93,7 +93,15 @@ fn hand_on(number: u64, j: u64, k: u64, g: u64, out: &mut [Row], count: usize) -
 }
 
 // One turn of the leave: what is sent on for arbiter i + 1, if it is in the set and held.
-fn hand_on_member(number: u64, set: u64, i: u64, k: u64, g: u64, out: &mut [Row], count: usize) -> usize
+fn hand_on_member(
+    number: u64,
+    set: u64,
+    i: u64,
+    k: u64,
+    g: u64,
+    out: &mut [Row],
+    count: usize,
+) -> usize
     requires { ⌜ (i < siteLimit) × (g ≤ numberLimit) × (count + 2 ≤ length (now out)) ⌝ }
     ensures { λ r. ⌜ Sent (handOnIf number set (suc i) k g) count (now (out .entry)) (now (out .exit)) r ⌝ }
 {
