@@ -21,19 +21,12 @@ ghost use Rattle.asking.specs.Sent.{Sent, requestIf, handOnIf};
 fn cleared(d: Desk, site: Site) -> Desk
     ensures { λ r. ⌜ r ≡ withSite (withoutEntries d) site ⌝ }
 {
-    let arbiter = d.arbiter;
-    let queued = d.queued;
-    Desk {
-        size: d.size,
-        number: d.number,
-        members: d.members,
-        site: site,
-        arbiter: arbiter,
-        held: [0; Rig::SITES],
-        heir: [0; Rig::SITES],
-        inquired: [0; Rig::SITES],
-        queued: queued,
-    }
+    let mut e = d;
+    e.site = site;
+    e.held = [0; Rig::SITES];
+    e.heir = [0; Rig::SITES];
+    e.inquired = [0; Rig::SITES];
+    e
 }
 
 // One turn of the ask: the request to site i + 1, if it is in the set.
@@ -53,8 +46,8 @@ fn request_members(d: Desk, seq: u64, out: &mut [Row], count: usize) -> usize
     ensures { λ r. ⌜ Sent (requests d seq (d .size)) count (now (out .entry)) (now (out .exit)) r ⌝ }
 {
     let mut n = count;
-    for i in 0..d.size {
-        n = request_member(d.number, d.members, seq, i, out, n);
+    for m in 0..d.size {
+        n = request_member(d.number, d.members, seq, m, out, n);
     }
     n
 }

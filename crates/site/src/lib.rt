@@ -90,8 +90,9 @@ fn yield_or_remember(d: Desk, j: u64, n: u64, out: &mut [Row], count: usize) -> 
     let i = (j - 1) as usize;
     let g = d.held[i];
     if g == 0 {
+        let e = entries::remember(d, j, n);
         return Acted {
-            desk: entries::remember(d, j, n),
+            desk: e,
             count: count,
         };
     }
@@ -178,16 +179,16 @@ pub fn on_transfer(d: Desk, j: u64, x: u64, n: u64, out: &mut [Row], count: usiz
 {
     let i = (j - 1) as usize;
     let g = d.held[i];
-    if n != g {
+    if n == g {
+        let mut e = d;
+        e.heir[i] = x;
         return Acted {
-            desk: d,
+            desk: e,
             count: count,
         };
     }
-    let mut e = d;
-    e.heir[i] = x;
     Acted {
-        desk: e,
+        desk: d,
         count: count,
     }
 }

@@ -15,11 +15,11 @@ use Rattle.asking.proofs.request_members.Lts as lts
 use Rattle.asking.proofs.request_member.Reads as request-member-reads
 
 abbrev Inv-loop : tie.InvT-loop
-Inv-loop d seq out₀ count n₀ i₀ i-end out n i =
-    (i ≤ d .size) × (i-end ≡ d .size) × (length out ≡ length out₀) × Sent (requests d seq i) count out₀ out n
+Inv-loop d seq out₀ count n₀ m₀ m-end out n m =
+    (m ≤ d .size) × (m-end ≡ d .size) × (length out ≡ length out₀) × Sent (requests d seq m) count out₀ out n
 
 abbrev μ-loop : tie.MeasureT-loop
-μ-loop d seq out₀ count n₀ i₀ i-end out n i = d .size - i
+μ-loop d seq out₀ count n₀ m₀ m-end out n m = d .size - m
 
 -- src/lib.rt:56:5
 loop-holds : tie.Need-loop-holds Inv-loop μ-loop
@@ -31,13 +31,13 @@ request-member-requires : tie.Need-request-member-requires Inv-loop μ-loop
 request-member-requires c κs =
     let l = c .before .before .loop in
     let a = c .before .before .before .args in
-    let h = requests-short (a .d) (a .seq) (l .i) in
+    let h = requests-short (a .d) (a .seq) (l .m) in
     let n = l .inv .3 .count in
     (omega arith, omega arith)
 
 -- src/lib.rt:56:9
-add-i : tie.Need-add-i Inv-loop μ-loop
-add-i c = search needs
+add-m : tie.Need-add-m Inv-loop μ-loop
+add-m c = search needs
 
 -- src/lib.rt:56:5
 loop-less : tie.Need-loop-less Inv-loop μ-loop
@@ -67,7 +67,7 @@ request-members-spec =
     μ-loop
     loop-holds
     request-member-requires
-    add-i
+    add-m
     loop-less
     loop-again
     same-length
