@@ -1,5 +1,6 @@
-use Rattle.model.specs.Ask.{asked}
+-- `ask`: the requests, and the desk with its entries cleared.
 use borrow.Author.Needs.{needs}
+use Rattle.model.specs.Ask.{asked}
 use Rattle.asking.proofs.ask.Statement.{statement}
 use Rattle.asking.proofs.ask.Tie as tie
 use Rattle.asking.proofs.ask.Reads as reads
@@ -7,23 +8,18 @@ use Rattle.asking.proofs.ask.Lts as lts
 use Rattle.asking.proofs.cleared.Reads as cleared-reads
 use Rattle.asking.proofs.request_members.Reads as request-members-reads
 
--- src/lib.rt:68:15
 add-seq : tie.Need-add-seq
 add-seq c = search needs
 
--- src/lib.rt:69:9
 request-members-requires : tie.Need-request-members-requires
 request-members-requires c κs = search needs
 
--- src/lib.rt:78:15
 cleared-requires : tie.Need-cleared-requires
 cleared-requires c κs = search needs
 
--- src/lib.rt:63:1
 same-length : tie.Need-same-length
 same-length c = search needs
 
--- src/lib.rt:63:1
 returns : tie.Need-returns
 unfolding asked
 returns c =

@@ -1,8 +1,8 @@
-use mathlib.Core.Path.{refl}
-use borrow.Author.Tests.{eq-eqb, ne-eqb}
+-- `hand_on`: a release alone, or a reply and then a release.
+use borrow.Author.Tests.{ne-eqb}
+use borrow.Author.Needs.{needs}
 use Rattle.model.specs.Leave.{handOn}
 use Rattle.asking.proofs.Sends.{sent-one, sent-then}
-use borrow.Author.Needs.{needs}
 use Rattle.asking.proofs.hand_on.Statement.{statement}
 use Rattle.asking.proofs.hand_on.Tie as tie
 use Rattle.asking.proofs.hand_on.Reads as reads
@@ -11,48 +11,37 @@ use Rattle.mail.proofs.append.Reads as append-reads
 use Rattle.rig.proofs.Message.release.Reads as release-reads
 use Rattle.rig.proofs.Message.reply.Reads as reply-reads
 
--- src/lib.rt:92:41
 release-requires : tie.Need-release-requires
 release-requires c κs = search needs
 
--- src/lib.rt:92:9
 append-requires : tie.Need-append-requires
 append-requires c κs = search needs
 
--- src/lib.rt:92:9
 same-length : tie.Need-same-length
 same-length c = search needs
 
--- src/lib.rt:92:9
 returns : tie.Need-returns
 unfolding handOn
 returns c = rw (c .before .before .before .before .if1 .taken, ← c .before .before .release .ensures) (sent-one (c .before .append .ensures))
 
--- src/lib.rt:94:67
 add-reply : tie.Need-add-reply
 add-reply c = search needs
 
--- src/lib.rt:94:38
 reply-requires : tie.Need-reply-requires
 reply-requires c κs = search needs
 
--- src/lib.rt:94:9
 append-requires-2 : tie.Need-append-requires-2
 append-requires-2 c κs = search needs
 
--- src/lib.rt:95:26
 release-requires-2 : tie.Need-release-requires-2
 release-requires-2 c κs = search needs
 
--- src/lib.rt:95:5
 append-requires-3 : tie.Need-append-requires-3
 append-requires-3 c κs = search needs
 
--- src/lib.rt:87:1
 same-length-2 : tie.Need-same-length-2
 same-length-2 c = search needs
 
--- src/lib.rt:87:1
 returns-2 : tie.Need-returns-2
 unfolding handOn
 returns-2 c =

@@ -1,42 +1,35 @@
-use mathlib.Core.Path.{refl}
+-- `hand_on_member`: what is sent on if the site is in the set and held, else nothing.
 use native.Mathlib.Numerals.{add-one}
 use borrow.Author.Tests.{eq-eqb, ne-eqb}
+use borrow.Author.Needs.{needs}
 use Rattle.model.specs.Sets.{member}
 use Rattle.asking.proofs.Sends.{sent-none}
-use borrow.Author.Needs.{needs}
 use Rattle.asking.proofs.hand_on_member.Statement.{statement}
 use Rattle.asking.proofs.hand_on_member.Tie as tie
 use Rattle.asking.proofs.hand_on_member.Reads as reads
 use Rattle.asking.proofs.hand_on_member.Lts as lts
 use Rattle.asking.proofs.hand_on.Reads as hand-on-reads
 
--- src/lib.rt:103:9
 shr-if1 : tie.Need-shr-if1
 shr-if1 c = search needs
 
--- src/lib.rt:104:9
 returns : tie.Need-returns
 unfolding member
 returns c = rw (ne-eqb _ _ (c .if1 .taken)) (sent-none _ _)
 
--- src/lib.rt:107:9
 returns-2 : tie.Need-returns-2
 unfolding member
 returns-2 c = rw (eq-eqb _ _ (c .before .if1 .left), c .if2 .taken) (sent-none _ _)
 
--- src/lib.rt:109:21
 add-hand-on : tie.Need-add-hand-on
 add-hand-on c = search needs
 
--- src/lib.rt:109:5
 hand-on-requires : tie.Need-hand-on-requires
 hand-on-requires c κs = search needs
 
--- src/lib.rt:99:1
 same-length : tie.Need-same-length
 same-length c = search needs
 
--- src/lib.rt:99:1
 returns-3 : tie.Need-returns-3
 unfolding member
 returns-3 c = rw (eq-eqb _ _ (c .before .before .before .before .if1 .left), ne-eqb _ _ (c .before .before .before .if2 .left)) (rw add-one at (c .before .hand-on .ensures))

@@ -1,9 +1,9 @@
+-- `request_member`: a request if the site is in the set, else nothing.
 use native.Mathlib.Numerals.{add-one}
-use mathlib.Core.Path.{refl}
 use borrow.Author.Tests.{eq-eqb, ne-eqb}
+use borrow.Author.Needs.{needs}
 use Rattle.model.specs.Sets.{member}
 use Rattle.asking.proofs.Sends.{sent-none, sent-one}
-use borrow.Author.Needs.{needs}
 use Rattle.asking.proofs.request_member.Statement.{statement}
 use Rattle.asking.proofs.request_member.Tie as tie
 use Rattle.asking.proofs.request_member.Reads as reads
@@ -11,33 +11,26 @@ use Rattle.asking.proofs.request_member.Lts as lts
 use Rattle.mail.proofs.append.Reads as append-reads
 use Rattle.rig.proofs.Message.request.Reads as request-reads
 
--- src/lib.rt:44:9
 shr-if1 : tie.Need-shr-if1
 shr-if1 c = search needs
 
--- src/lib.rt:45:66
 add-request : tie.Need-add-request
 add-request c = search needs
 
--- src/lib.rt:45:41
 request-requires : tie.Need-request-requires
 request-requires c κs = search needs
 
--- src/lib.rt:45:9
 append-requires : tie.Need-append-requires
 append-requires c κs = search needs
 
--- src/lib.rt:45:9
 same-length : tie.Need-same-length
 same-length c = search needs
 
--- src/lib.rt:45:9
 returns : tie.Need-returns
 unfolding member
 returns c = rw (eq-eqb _ _ (c .before .before .before .before .if1 .taken))
     (sent-one (rw (rw add-one at (c .before .before .request .ensures)) at (c .before .append .ensures)))
 
--- src/lib.rt:40:1
 returns-2 : tie.Need-returns-2
 unfolding member
 returns-2 c = rw (ne-eqb _ _ (c .if1 .left)) (sent-none _ _)

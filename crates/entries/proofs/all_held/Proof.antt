@@ -1,17 +1,17 @@
-use Prim.Native.Nat.{suc, _+_, _≤_, _-_}
+-- `all_held`: the sites passed so far pass.
+use Prim.Native.Nat.{suc, _≤_, _-_}
 use mathlib.Core.Path.{_≡_, refl, sym, _∙_}
 use mathlib.Core.Bool.{true, not, _||_}
 use native.Mathlib.Omega.{arith}
 use native.Mathlib.Nat.{le-antisymm}
-use native.Mathlib.Numerals.{add-one}
-use borrow.Author.Tests.{not-true, not-false}
 use lib.Dec.{eqb}
+use borrow.Author.Tests.{not-true, not-false}
+use borrow.Author.Needs.{needs}
 use Rattle.basics.specs.Helpers.{all}
 use Rattle.basics.proofs.Basics.{all-fails, all-more}
 use Rattle.model.specs.Tables.{at}
 use Rattle.model.specs.Desk.{has, heldFor}
 use Rattle.model.specs.Site.{allHeld}
-use borrow.Author.Needs.{needs}
 use Rattle.entries.proofs.all_held.Statement.{statement}
 use Rattle.entries.proofs.all_held.Tie as tie
 use Rattle.entries.proofs.all_held.Reads as reads
@@ -20,29 +20,24 @@ use Rattle.entries.proofs.outside_or_held.Reads as outside-or-held-read
 
 abbrev Inv-loop : tie.InvT-loop
 Inv-loop d i₀ i-end i =
-    (i ≤ d .size) × (i-end ≡ d .size) × (all (λ j. not (has d j) || not (eqb (heldFor d j) 0)) i ≡ true)
+    (all (λ j. not (has d j) || not (eqb (heldFor d j) 0)) i ≡ true) × (i ≤ d .size) × (i-end ≡ d .size)
 
 abbrev μ-loop : tie.MeasureT-loop
 μ-loop d i₀ i-end i = d .size - i
 
--- src/lib.rt:84:5
 loop-holds : tie.Need-loop-holds Inv-loop μ-loop
 unfolding all
-loop-holds c = (omega arith, refl, refl)
+loop-holds c = (refl, omega arith, refl)
 
--- src/lib.rt:85:17
 mul-g : tie.Need-mul-g Inv-loop μ-loop
 mul-g c = search needs
 
--- src/lib.rt:85:17
 element-copy-out-g : tie.Need-element-copy-out-g Inv-loop μ-loop
 element-copy-out-g c = search needs
 
--- src/lib.rt:86:13
 outside-or-held-requires : tie.Need-outside-or-held-requires Inv-loop μ-loop
 outside-or-held-requires c κs = search needs
 
--- src/lib.rt:87:13
 returns : tie.Need-returns Inv-loop μ-loop
 unfolding allHeld at
 returns c =
@@ -50,25 +45,21 @@ returns c =
     let i = c .before .before .before .before .loop .i in
     sym (all-fails _ n (suc i) (omega arith) (omega arith) (sym (c .before .outside-or-held .ensures) ∙ not-true _ (c .if1 .taken)))
 
--- src/lib.rt:84:9
 add-i : tie.Need-add-i Inv-loop μ-loop
 add-i c = search needs
 
--- src/lib.rt:84:5
 loop-less : tie.Need-loop-less Inv-loop μ-loop
 loop-less c = search needs
 
--- src/lib.rt:84:5
 loop-again : tie.Need-loop-again Inv-loop μ-loop
 unfolding at
 loop-again c =
     let l = c .before .before .before .before .loop in
-    (omega arith, refl, all-more _ (l .i) (l .inv .2) (sym (c .before .outside-or-held .ensures) ∙ not-false _ (c .if1 .left)))
+    (all-more _ (l .i) (l .inv .0) (sym (c .before .outside-or-held .ensures) ∙ not-false _ (c .if1 .left)), omega arith, refl)
 
--- src/lib.rt:80:1
 returns-2 : tie.Need-returns-2 Inv-loop μ-loop
 unfolding allHeld
-returns-2 c = sym (rw (le-antisymm (c .before .loop .inv .0) (c .loop-test .left)) at (c .before .loop .inv .2))
+returns-2 c = sym (rw (le-antisymm (c .before .loop .inv .1) (c .loop-test .left)) at (c .before .loop .inv .0))
 
 pub all-held-spec : {M : Type 1} → statement M
 all-held-spec =

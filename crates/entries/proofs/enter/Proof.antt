@@ -1,12 +1,11 @@
-use mathlib.Core.Path.{_≡_, refl, sym, _∙_, ap}
-use Rattle.model.specs.Site.{failedSet, allHeld, entered, taken, remembered, mustYield}
-use borrow.Author.Needs.{needs}
+-- `enter`: the mode and the remembered inquires anew.
+use mathlib.Core.Path.{refl}
+use Rattle.model.specs.Site.{entered}
 use Rattle.entries.proofs.enter.Statement.{statement}
 use Rattle.entries.proofs.enter.Tie as tie
 use Rattle.entries.proofs.enter.Reads as reads
 use Rattle.entries.proofs.enter.Lts as lts
 
--- src/lib.rt:93:1
 returns : tie.Need-returns
 unfolding entered
 returns c = refl

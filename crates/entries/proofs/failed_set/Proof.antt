@@ -1,17 +1,15 @@
-use mathlib.Core.Path.{_≡_, refl, sym, _∙_, ap}
-use Rattle.model.specs.Site.{failedSet, allHeld, entered, taken, remembered, mustYield}
+-- `failed_set`: the mode anew, its sequence number kept.
 use borrow.Author.Needs.{needs}
+use Rattle.model.specs.Site.{failedSet}
 use Rattle.entries.proofs.failed_set.Statement.{statement}
 use Rattle.entries.proofs.failed_set.Tie as tie
 use Rattle.entries.proofs.failed_set.Reads as reads
 use Rattle.entries.proofs.failed_set.Lts as lts
 use Rattle.entries.proofs.seq_in.Reads as seq-in-reads
 
--- src/lib.rt:62:18
 seq-in-requires : tie.Need-seq-in-requires
 seq-in-requires c κs = search needs
 
--- src/lib.rt:56:1
 returns : tie.Need-returns
 unfolding failedSet
 returns c = rw (c .seq-in .ensures)

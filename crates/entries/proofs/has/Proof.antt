@@ -1,9 +1,10 @@
+-- `has`: site j's bit of the set.
 use Prim.Native.Nat.{ℕ, zero, suc, _-_, _/_, _%_, _^_, _≤_}
 use mathlib.Core.Path.{_≡_, sym, ap}
 use native.Mathlib.Omega.{arith}
 use lib.Dec.{eqb}
-use Rattle.model.specs.Sets.{member}
 use borrow.Author.Needs.{needs}
+use Rattle.model.specs.Sets.{member}
 use Rattle.entries.proofs.has.Statement.{statement}
 use Rattle.entries.proofs.has.Tie as tie
 use Rattle.entries.proofs.has.Reads as reads
@@ -15,15 +16,12 @@ unfolding member
 member-bit s zero h = absurd (omega arith)
 member-bit s (suc i) h = let e : i ≡ suc i - 1 = omega arith in ap (λ (k : ℕ). eqb (s / 2 ^ k % 2) 1) e
 
--- src/lib.rt:53:14
 sub-result : tie.Need-sub-result
 sub-result c = search needs
 
--- src/lib.rt:53:6
 shr-result : tie.Need-shr-result
 shr-result c = search needs
 
--- src/lib.rt:49:1
 returns : tie.Need-returns
 returns c = sym (member-bit _ _ (c .pre .low))
 

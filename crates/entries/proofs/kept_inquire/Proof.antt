@@ -1,15 +1,13 @@
-use borrow.Author.Tests.{eq-eqb, ne-eqb, not-true, not-false}
-use borrow.Author.Needs.{needs}
+-- `kept_inquire`: by whether the numbers agree.
+use borrow.Author.Tests.{eq-eqb, ne-eqb}
 use Rattle.entries.proofs.kept_inquire.Statement.{statement}
 use Rattle.entries.proofs.kept_inquire.Tie as tie
 use Rattle.entries.proofs.kept_inquire.Reads as reads
 use Rattle.entries.proofs.kept_inquire.Lts as lts
 
--- src/lib.rt:108:1
 returns : tie.Need-returns
 returns c = rw (eq-eqb _ _ (c .if1 .taken))
 
--- src/lib.rt:108:1
 returns-2 : tie.Need-returns-2
 returns-2 c = rw (ne-eqb _ _ (c .if1 .left))
 

@@ -1,51 +1,43 @@
-use borrow.Author.Tests.{eq-eqb, ne-eqb, not-true, not-false}
-use Rattle.model.proofs.Tables.{at-read, put-write}
-use mathlib.Core.Path.{_≡_, refl, sym, _∙_, ap}
-use Rattle.model.specs.Site.{failedSet, allHeld, entered, taken, remembered, mustYield}
+-- `must_yield`: the three tests in their order.
+use mathlib.Core.Path.{sym, _∙_}
+use borrow.Author.Tests.{ne-eqb, not-true, not-false}
 use borrow.Author.Needs.{needs}
+use Rattle.model.proofs.Tables.{at-read}
+use Rattle.model.specs.Site.{taken, mustYield}
 use Rattle.entries.proofs.must_yield.Statement.{statement}
 use Rattle.entries.proofs.must_yield.Tie as tie
 use Rattle.entries.proofs.must_yield.Reads as reads
 use Rattle.entries.proofs.must_yield.Lts as lts
 use Rattle.entries.proofs.has.Reads as has-reads
 
--- src/lib.rt:140:9
 has-requires : tie.Need-has-requires
 has-requires c κs = search needs
 
--- src/lib.rt:141:9
 returns : tie.Need-returns
 unfolding mustYield
 returns c = rw (sym (c .before .has .ensures) ∙ not-true _ (c .if1 .taken))
 
--- src/lib.rt:143:14
 sub-i : tie.Need-sub-i
 sub-i c = search needs
 
--- src/lib.rt:144:13
 mul-g : tie.Need-mul-g
 mul-g c = search needs
 
--- src/lib.rt:144:13
 element-copy-out-g : tie.Need-element-copy-out-g
 element-copy-out-g c = search needs
 
--- src/lib.rt:146:9
 returns-2 : tie.Need-returns-2
 unfolding mustYield
 returns-2 c =
     let d = c .before .before .before .before .args .t1 in
     rw (sym (c .before .before .before .has .ensures) ∙ not-false _ (c .before .before .if1 .left), at-read 0 (d .held) _ (c .before .before .before .before .pre .low), c .if2 .taken)
 
--- src/lib.rt:148:13
 mul-q : tie.Need-mul-q
 mul-q c = search needs
 
--- src/lib.rt:148:13
 element-copy-out-q : tie.Need-element-copy-out-q
 element-copy-out-q c = search needs
 
--- src/lib.rt:136:1
 returns-3 : tie.Need-returns-3
 unfolding mustYield
 returns-3 c =

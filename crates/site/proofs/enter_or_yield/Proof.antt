@@ -1,9 +1,10 @@
-use mathlib.Core.Path.{_≡_, refl, sym, _∙_, ap}
-use borrow.Author.Tests.{eq-eqb, ne-eqb, not-true, not-false}
-use Rattle.model.proofs.Tables.{at-read, put-write}
-use Rattle.site.proofs.Does.{did-only}
-use Rattle.model.specs.Site.{enteredOrYielded}
+-- `enter_or_yield`: the tests in their order.
+use mathlib.Core.Path.{refl, sym, _∙_}
+use borrow.Author.Tests.{ne-eqb, not-true, not-false}
 use borrow.Author.Needs.{needs}
+use Rattle.model.proofs.Tables.{at-read}
+use Rattle.model.specs.Site.{enteredOrYielded}
+use Rattle.site.proofs.Does.{did-only}
 use Rattle.site.proofs.enter_or_yield.Statement.{statement}
 use Rattle.site.proofs.enter_or_yield.Tie as tie
 use Rattle.site.proofs.enter_or_yield.Reads as reads
@@ -13,41 +14,32 @@ use Rattle.entries.proofs.enter.Reads as enter-reads
 use Rattle.entries.proofs.has_failed.Reads as has-failed-reads
 use Rattle.site.proofs.yield_member.Reads as yield-member-reads
 
--- src/lib.rt:33:8
 all-held-requires : tie.Need-all-held-requires
 all-held-requires c κs = search needs
 
--- src/lib.rt:35:19
 enter-requires : tie.Need-enter-requires
 enter-requires c κs = search needs
 
--- src/lib.rt:34:9
 returns : tie.Need-returns
 unfolding enteredOrYielded
 returns c = rw (sym (c .before .before .all-held .ensures) ∙ c .before .if1 .taken) (did-only _ _ (c .enter .ensures))
 
--- src/lib.rt:40:9
 has-failed-requires : tie.Need-has-failed-requires
 has-failed-requires c κs = search needs
 
--- src/lib.rt:41:9
 returns-2 : tie.Need-returns-2
 unfolding enteredOrYielded
 returns-2 c = rw (sym (c .before .before .before .before .all-held .ensures) ∙ c .before .before .before .if1 .left, sym (c .before .has-failed .ensures) ∙ not-true _ (c .if2 .taken)) (did-only _ _ refl)
 
--- src/lib.rt:46:14
 sub-i : tie.Need-sub-i
 sub-i c = search needs
 
--- src/lib.rt:47:13
 mul-q : tie.Need-mul-q
 mul-q c = search needs
 
--- src/lib.rt:47:13
 element-copy-out-q : tie.Need-element-copy-out-q
 element-copy-out-q c = search needs
 
--- src/lib.rt:49:9
 returns-3 : tie.Need-returns-3
 unfolding enteredOrYielded
 returns-3 c =
@@ -55,15 +47,12 @@ returns-3 c =
     let low = c .before .before .before .before .before .before .before .pre .0 .low in
     rw (sym (c .before .before .before .before .before .before .all-held .ensures) ∙ c .before .before .before .before .before .if1 .left, sym (c .before .before .before .has-failed .ensures) ∙ not-false _ (c .before .before .if2 .left), at-read 0 (d .inquired) _ low, c .if3 .taken) (did-only _ _ refl)
 
--- src/lib.rt:54:5
 yield-member-requires : tie.Need-yield-member-requires
 yield-member-requires c κs = search needs
 
--- src/lib.rt:29:1
 same-length : tie.Need-same-length
 same-length c = search needs
 
--- src/lib.rt:29:1
 returns-4 : tie.Need-returns-4
 unfolding enteredOrYielded
 returns-4 c =

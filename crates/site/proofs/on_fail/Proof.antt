@@ -1,8 +1,9 @@
+-- `on_fail`: whether the site waits.
+use mathlib.Core.Path.{refl, sym, _∙_}
 use borrow.Author.Tests.{not-true, not-false}
-use mathlib.Core.Path.{_≡_, refl, sym, _∙_, ap}
-use Rattle.site.proofs.Does.{did-only}
-use Rattle.model.specs.Site.{failedSet, onFail}
 use borrow.Author.Needs.{needs}
+use Rattle.model.specs.Site.{failedSet, onFail}
+use Rattle.site.proofs.Does.{did-only}
 use Rattle.site.proofs.on_fail.Statement.{statement}
 use Rattle.site.proofs.on_fail.Tie as tie
 use Rattle.site.proofs.on_fail.Reads as reads
@@ -11,31 +12,25 @@ use Rattle.entries.proofs.failed_set.Reads as failed-set-reads
 use Rattle.entries.proofs.is_waiting.Reads as is-waiting-reads
 use Rattle.site.proofs.yield_members.Reads as yield-members-reads
 
--- src/lib.rt:165:9
 is-waiting-requires : tie.Need-is-waiting-requires
 is-waiting-requires c κs = search needs
 
--- src/lib.rt:166:9
 returns : tie.Need-returns
 unfolding onFail
 returns c = rw (sym (c .before .is-waiting .ensures) ∙ not-true _ (c .if1 .taken)) (did-only _ _ refl)
 
--- src/lib.rt:171:19
 failed-set-requires : tie.Need-failed-set-requires
 failed-set-requires c κs = search needs
 
--- src/lib.rt:171:5
 yield-members-requires : tie.Need-yield-members-requires
 unfolding failedSet
 yield-members-requires c κs =
     let pre = c .before .before .before .before .before .pre in
     record { size = rw (c .before .failed-set .ensures) (pre .size); room = pre .room }
 
--- src/lib.rt:160:1
 same-length : tie.Need-same-length
 same-length c = search needs
 
--- src/lib.rt:160:1
 returns-2 : tie.Need-returns-2
 unfolding onFail failedSet
 returns-2 c = rw (sym (c .before .before .before .before .before .is-waiting .ensures) ∙ not-false _ (c .before .before .before .before .if1 .left)) (rw (c .before .before .before .failed-set .ensures) at (c .before .yield-members .ensures))

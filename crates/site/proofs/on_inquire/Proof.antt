@@ -1,8 +1,9 @@
-use borrow.Author.Tests.{eq-eqb, ne-eqb, not-true, not-false}
-use mathlib.Core.Path.{_≡_, refl, sym, _∙_, ap}
-use Rattle.site.proofs.Does.{did-only}
-use Rattle.model.specs.Site.{onInquire}
+-- `on_inquire`: whether the site waits.
+use mathlib.Core.Path.{refl, sym, _∙_}
+use borrow.Author.Tests.{not-true, not-false}
 use borrow.Author.Needs.{needs}
+use Rattle.model.specs.Site.{onInquire}
+use Rattle.site.proofs.Does.{did-only}
 use Rattle.site.proofs.on_inquire.Statement.{statement}
 use Rattle.site.proofs.on_inquire.Tie as tie
 use Rattle.site.proofs.on_inquire.Reads as reads
@@ -10,24 +11,19 @@ use Rattle.site.proofs.on_inquire.Lts as lts
 use Rattle.entries.proofs.is_waiting.Reads as is-waiting-reads
 use Rattle.site.proofs.yield_or_remember.Reads as yield-or-remember-reads
 
--- src/lib.rt:120:9
 is-waiting-requires : tie.Need-is-waiting-requires
 is-waiting-requires c κs = search needs
 
--- src/lib.rt:121:9
 returns : tie.Need-returns
 unfolding onInquire
 returns c = rw (sym (c .before .is-waiting .ensures) ∙ not-true _ (c .if1 .taken)) (did-only _ _ refl)
 
--- src/lib.rt:126:5
 yield-or-remember-requires : tie.Need-yield-or-remember-requires
 yield-or-remember-requires c κs = search needs
 
--- src/lib.rt:115:1
 same-length : tie.Need-same-length
 same-length c = search needs
 
--- src/lib.rt:115:1
 returns-2 : tie.Need-returns-2
 unfolding onInquire
 returns-2 c = rw (sym (c .before .before .before .before .is-waiting .ensures) ∙ not-false _ (c .before .before .before .if1 .left)) (c .before .yield-or-remember .ensures)

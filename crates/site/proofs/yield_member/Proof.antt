@@ -1,7 +1,7 @@
-use mathlib.Core.Path.{_≡_, refl, sym, _∙_, ap}
+-- `yield_member`: one message, and three entries cleared.
+use borrow.Author.Needs.{needs}
 use Rattle.model.proofs.Tables.{at-read, put-write}
 use Rattle.model.specs.Site.{failedSet, yielded}
-use borrow.Author.Needs.{needs}
 use Rattle.site.proofs.yield_member.Statement.{statement}
 use Rattle.site.proofs.yield_member.Tie as tie
 use Rattle.site.proofs.yield_member.Reads as reads
@@ -10,59 +10,45 @@ use Rattle.entries.proofs.failed_set.Reads as failed-set-reads
 use Rattle.mail.proofs.append.Reads as append-reads
 use Rattle.rig.proofs.Message.yielding.Reads as yielding-reads
 
--- src/lib.rt:19:14
 sub-i : tie.Need-sub-i
 sub-i c = search needs
 
--- src/lib.rt:20:13
 mul-g : tie.Need-mul-g
 mul-g c = search needs
 
--- src/lib.rt:20:13
 element-copy-out-g : tie.Need-element-copy-out-g
 element-copy-out-g c = search needs
 
--- src/lib.rt:21:38
 yielding-requires : tie.Need-yielding-requires
 yielding-requires c κs = search needs
 
--- src/lib.rt:21:9
 append-requires : tie.Need-append-requires
 append-requires c κs = search needs
 
--- src/lib.rt:22:17
 failed-set-requires : tie.Need-failed-set-requires
 failed-set-requires c κs = search needs
 
--- src/lib.rt:23:5
 mul-e : tie.Need-mul-e
 mul-e c = search needs
 
--- src/lib.rt:23:5
 element-write-e : tie.Need-element-write-e
 element-write-e c = search needs
 
--- src/lib.rt:24:5
 mul-e-2 : tie.Need-mul-e-2
 mul-e-2 c = search needs
 
--- src/lib.rt:24:5
 element-write-e-2 : tie.Need-element-write-e-2
 element-write-e-2 c = search needs
 
--- src/lib.rt:25:5
 mul-e-3 : tie.Need-mul-e-3
 mul-e-3 c = search needs
 
--- src/lib.rt:25:5
 element-write-e-3 : tie.Need-element-write-e-3
 element-write-e-3 c = search needs
 
--- src/lib.rt:15:1
 same-length : tie.Need-same-length
 same-length c = search needs
 
--- src/lib.rt:15:1
 returns : tie.Need-returns
 unfolding yielded failedSet
 returns c =

@@ -1,9 +1,10 @@
-use mathlib.Core.Path.{_≡_, refl, sym, _∙_, ap}
-use borrow.Author.Tests.{eq-eqb, ne-eqb, not-true, not-false}
-use Rattle.model.proofs.Tables.{at-read, put-write}
-use Rattle.site.proofs.Does.{did-only}
-use Rattle.model.specs.Site.{yieldedOrRemembered}
+-- `yield_or_remember`: the tests in their order.
+use mathlib.Core.Path.{refl, sym, _∙_}
+use borrow.Author.Tests.{eq-eqb, ne-eqb}
 use borrow.Author.Needs.{needs}
+use Rattle.model.proofs.Tables.{at-read}
+use Rattle.model.specs.Site.{yieldedOrRemembered}
+use Rattle.site.proofs.Does.{did-only}
 use Rattle.site.proofs.yield_or_remember.Statement.{statement}
 use Rattle.site.proofs.yield_or_remember.Tie as tie
 use Rattle.site.proofs.yield_or_remember.Reads as reads
@@ -12,23 +13,18 @@ use Rattle.entries.proofs.has_failed.Reads as has-failed-reads
 use Rattle.entries.proofs.remember.Reads as remember-reads
 use Rattle.site.proofs.yield_member.Reads as yield-member-reads
 
--- src/lib.rt:90:14
 sub-i : tie.Need-sub-i
 sub-i c = search needs
 
--- src/lib.rt:91:13
 mul-g : tie.Need-mul-g
 mul-g c = search needs
 
--- src/lib.rt:91:13
 element-copy-out-g : tie.Need-element-copy-out-g
 element-copy-out-g c = search needs
 
--- src/lib.rt:94:19
 remember-requires : tie.Need-remember-requires
 remember-requires c κs = search needs
 
--- src/lib.rt:93:9
 returns : tie.Need-returns
 unfolding yieldedOrRemembered
 returns c =
@@ -36,7 +32,6 @@ returns c =
     let low = c .before .before .before .pre .0 .low in
     rw (at-read 0 (d .held) _ low, c .before .if1 .taken) (did-only _ _ (c .remember .ensures))
 
--- src/lib.rt:99:9
 returns-2 : tie.Need-returns-2
 unfolding yieldedOrRemembered
 returns-2 c =
@@ -44,19 +39,15 @@ returns-2 c =
     let low = c .before .before .before .pre .0 .low in
     rw (at-read 0 (d .held) _ low, ne-eqb _ _ (c .before .if1 .left), ne-eqb _ _ (c .if2 .taken)) (did-only _ _ refl)
 
--- src/lib.rt:105:8
 has-failed-requires : tie.Need-has-failed-requires
 has-failed-requires c κs = search needs
 
--- src/lib.rt:106:9
 yield-member-requires : tie.Need-yield-member-requires
 yield-member-requires c κs = search needs
 
--- src/lib.rt:106:9
 same-length : tie.Need-same-length
 same-length c = search needs
 
--- src/lib.rt:106:9
 returns-3 : tie.Need-returns-3
 unfolding yieldedOrRemembered
 returns-3 c =
@@ -64,11 +55,9 @@ returns-3 c =
     let low = c .before .before .before .before .before .before .before .before .before .pre .0 .low in
     rw (at-read 0 (d .held) _ low, ne-eqb _ _ (c .before .before .before .before .before .before .before .if1 .left), eq-eqb _ _ (c .before .before .before .before .before .before .if2 .left), sym (c .before .before .before .before .has-failed .ensures) ∙ c .before .before .before .if3 .taken) (c .before .yield-member .ensures)
 
--- src/lib.rt:109:15
 remember-requires-2 : tie.Need-remember-requires-2
 remember-requires-2 c κs = search needs
 
--- src/lib.rt:86:1
 returns-4 : tie.Need-returns-4
 unfolding yieldedOrRemembered
 returns-4 c =
