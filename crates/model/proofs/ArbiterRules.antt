@@ -18,9 +18,9 @@ use Rattle.protocol.specs.Local as P
 use Rattle.protocol.specs.Arbiter as A
 use Rattle.protocol.specs.Rig.{sentBy}
 use Rattle.model.specs.Tables.{at, put}
-use Rattle.model.specs.Priority.{comesBefore, queuedKey, headWith, head}
+use Rattle.model.specs.Priority.{comesBefore, goesFirst, queuedKey, headWith, head}
 use Rattle.model.specs.Desk.{Effect, effect, queuedAt, withArbiter}
-use Rattle.model.specs.Arbiter.{grantOf, holderOf, holderKey, siteKey, headOf, heldBy, free, withQueued, without, nextHeir, granted, grantedHead, failFormer, inquireOrFail, answers, queuedUp, inquireIfBefore, headNamed, heirTakesOver, holderReleases, fromHolder, isEarly, earlyRelease, onRelease, onYield}
+use Rattle.model.specs.Arbiter.{grantOf, holderOf, holderKey, siteKey, headOf, heldBy, free, withQueued, without, nextHeir, granted, grantedHead, formerTold, failFormer, inquireOrFail, answers, queuedUp, inquireIfBefore, headNamed, heirTakesOver, holderReleases, fromHolder, isEarly, earlyRelease, onRelease, onYield}
 use Rattle.basics.proofs.Basics.{by-bool}
 use Rattle.model.proofs.Tables.{at-put, length-put}
 use Rattle.model.proofs.Lawful.{before}
@@ -66,7 +66,7 @@ head-within row (suc n) =
     (λ e. rw e (omega arith))
     (λ e. by-bool (eqb (head row n) 0)
     (λ f. rw (e, f) (omega arith))
-    (λ f. by-bool (comesBefore (queuedKey row (suc n)) (queuedKey row (head row n))) (λ g. rw (e, f, g) (omega arith)) (λ g. rw (e, f, g) (omega arith))))
+    (λ f. by-bool (goesFirst row (suc n) (head row n)) (λ g. rw (e, f, g) (omega arith)) (λ g. rw (e, f, g) (omega arith))))
 
 module _ (l : P.Local) (mem : ℕ → Bool) where
   -- the machine's setting for the desk
@@ -126,7 +126,7 @@ module _ (l : P.Local) (mem : ℕ → Bool) where
     answers-same k former =
         let h = headOf-same d _ refl in
         by-bool (eqb (A.headOf (settingAt d) (λ i. at 0 (d .queued) i)) k)
-        (λ e. by-bool (not (eqb former 0) && (not (eqb former k) && comesBefore (siteKey d former) (holderKey d)))
+        (λ e. by-bool (formerTold d k former)
         (λ x. by-bool (comesBefore (siteKey d k) (holderKey d)) (λ y. rw (h, e, x, y)) (λ y. rw (h, e, x, y)))
         (λ x. by-bool (comesBefore (siteKey d k) (holderKey d)) (λ y. rw (h, e, x, y)) (λ y. rw (h, e, x, y))))
         (λ e. rw (h, e))
@@ -166,6 +166,11 @@ module _ (l : P.Local) (mem : ℕ → Bool) where
         (λ e. by-bool (eqb n (suc (grantOf d)) && not (eqb (queuedAt d k) 0))
         (λ f. rw (e, add-one, f) (grantedHead-from (free d (suc (grantOf d)) (without d k)) (length-put (d .queued) k 0 ∙ long) size _ (rw q)))
         (λ f. rw (e, add-one, f) (nothing d)))
+
+    -- a hand-over has the next grant number
+    takesOver-grant : (x : ℕ) → heirTakesOver d x .desk .arbiter .grant ≡ suc (grantOf d)
+    unfolding heirTakesOver
+    takesOver-grant x = omega arith
 
     takesOver-sees : (x : ℕ) → 1 ≤ x → x ≤ siteLimit → Sees l (heirTakesOver d x) (A.heirTakesOver (settingAt d) (seen d) x)
     unfolding heirTakesOver headNamed inquireIfBefore A.heirTakesOver sentBy

@@ -7,3 +7,13 @@ pub mod Machine
 pub mod ArbiterRules
 pub mod ArbiterDelivered
 pub mod SiteDelivered
+pub mod ReplyDelivered
+pub mod FailDelivered
+pub mod AskLeave
+pub mod Shaped
+pub mod Delivered
+pub mod DeskSizes
+pub mod Plain
+pub mod Reached
+pub mod Theorem
+pub mod Always

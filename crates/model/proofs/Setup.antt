@@ -6,7 +6,7 @@ use mathlib.Core.List.{List}
 use native.Mathlib.Omega.{arith}
 use lib.Dec.{eqb, leb}
 use lib.ListN.{length}
-use borrow.Author.Tests.{eqb-true, leb-true, le-leb, lt-leb, not-false}
+use borrow.Author.Tests.{eqb-true, eq-eqb, leb-true, le-leb, lt-leb, not-false}
 use Rattle.rig.specs.Limits.{siteLimit}
 use Rattle.model.specs.Setup.{sizeListed, allName, allMeet, setupCode}
 use Rattle.basics.proofs.Basics.{and-split, and-second}
@@ -46,3 +46,8 @@ size-listed n a b = rw (le-leb 1 n a, le-leb n siteLimit b)
 pub size-too-large : (n : ℕ) → siteLimit < n → sizeListed n ≡ false
 unfolding sizeListed
 size-too-large n h = and-second (leb 1 n) (leb n siteLimit) (lt-leb n siteLimit h)
+
+-- and the other way round
+pub accepted-code : (n : ℕ) (sets : List ℕ) → Accepted n sets → setupCode n sets ≡ 0
+unfolding setupCode
+accepted-code n sets a = rw (eq-eqb (length sets) siteLimit (a .long), size-listed n (a .low) (a .high), a .name, a .meet)

@@ -48,7 +48,7 @@ module _ (t : Tables) (z : Sized t) (b : ℕ) (lo : 1 ≤ b) (hi : b ≤ siteLim
   of-site u ms k = rig-with t z b lo hi u n (λ j. otherRow t b u j) ms (λ j ne. refl) (rw (k .arbiter, k .queued))
 
   -- the entries of one member alone
-  abbrev entered-row : Desk → ℕ → R.Row
+  abbrev pub entered-row : Desk → ℕ → R.Row
   entered-row u j = R.rowOf (P.withEntries (localAt t j) (update (λ k. heldOf t k j) b (heldFor u j)) (update (λ k. heirOf t k j) b (heirFor u j)) (update (λ k. inquiredOf t k j) b (inquiredFor u j)))
 
   pub rows-of-one : (u : Desk) (j : ℕ) → ((i : ℕ) → i ≢ j → heldFor u i ≡ heldOf t b i) → ((i : ℕ) → i ≢ j → heirFor u i ≡ heirOf t b i) → ((i : ℕ) → i ≢ j → inquiredFor u i ≡ inquiredOf t b i)
@@ -71,7 +71,7 @@ module _ (t : Tables) (z : Sized t) (b : ℕ) (lo : 1 ≤ b) (hi : b ≤ siteLim
 
   module _ (rest : List Message) (j : ℕ) where
     -- the rig where only the entries for member j change
-    of-entry : (u : Desk) (sent : List Message) (v : P.View) → ArbiterKept (deskOf t b) u → u .site .mode ≡ modeOf t b → u .site .clock ≡ siteOf t b .clock
+    pub of-entry : (u : Desk) (sent : List Message) (v : P.View) → ArbiterKept (deskOf t b) u → u .site .mode ≡ modeOf t b → u .site .clock ≡ siteOf t b .clock
         → ((i : ℕ) → i ≢ j → heldFor u i ≡ heldOf t b i) → ((i : ℕ) → i ≢ j → heirFor u i ≡ heirOf t b i) → ((i : ℕ) → i ≢ j → inquiredFor u i ≡ inquiredOf t b i)
         → entered-row u j ≡ R.rowOf v.tables → map sentOf sent ≡ R.sentBy j v.messages
         → rigOf (withDesk t b u n) (rest ++ sent) ≡ record { sites = sitesOf t; clock = λ k. siteOf t k .clock; rows = update (λ i. rowOf t i) j (R.rowOf v.tables); underWay = map sentOf rest ++ R.sentBy j v.messages }

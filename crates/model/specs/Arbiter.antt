@@ -73,9 +73,11 @@ unfoldable pub clockRaised : Desk → ℕ → Desk
 clockRaised d n = withSite d (record { mode = d .site .mode; clock = max (d .site .clock) n })
 
 -- "fail to the former head (before k was queued), if there was one other than k and it comes before the holder"
+abbrev pub formerTold : Desk → ℕ → ℕ → Bool
+formerTold d k former = not (eqb former 0) && (not (eqb former k) && comesBefore (siteKey d former) (holderKey d))
+
 unfoldable pub failFormer : Desk → ℕ → ℕ → List Message
-failFormer d k former =
-    cond (not (eqb former 0) && (not (eqb former k) && comesBefore (siteKey d former) (holderKey d))) (failTo d former ∷ []) []
+failFormer d k former = cond (formerTold d k former) (failTo d former ∷ []) []
 
 -- "then inquire to the holder if k comes before it, else fail to k"
 unfoldable pub inquireOrFail : Desk → ℕ → Message

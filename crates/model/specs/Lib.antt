@@ -13,3 +13,4 @@ pub mod Shape
 pub mod Event
 pub mod Run
 pub mod Printed
+pub mod Always

@@ -21,12 +21,15 @@ comesBefore a b = cond (eqb (a .seq) (b .seq)) (ltb (a .site) (b .site)) (ltb (a
 abbrev pub queuedKey : List ℕ → ℕ → Key
 queuedKey row k = key (at 0 row k) k
 
+abbrev pub goesFirst : List ℕ → ℕ → ℕ → Bool
+goesFirst row k h = comesBefore (queuedKey row k) (queuedKey row h)
+
 -- the head, once site k is looked at: h is the head of the sites below k, 0 none
 unfoldable pub headWith : List ℕ → ℕ → ℕ → ℕ
 headWith row k h =
     cond (eqb (at 0 row k) 0) h
     (cond (eqb h 0) k
-    (cond (comesBefore (queuedKey row k) (queuedKey row h)) k h))
+    (cond (goesFirst row k h) k h))
 
 -- "The head is the queued site that comes before all others queued": of the sites 1 to n; 0 where none is queued
 unfoldable pub head : List ℕ → ℕ → ℕ

@@ -86,6 +86,9 @@ unfoldable pub onFail : Desk → Effect
 onFail d = cond (waits d) (yieldedUpTo (failedSet d) (d .size)) (effect d [])
 
 -- "Transfer from j whose number the site holds for j: the heir of j becomes the named site, in place of any older one."
+abbrev pub namesHeld : Desk → ℕ → ℕ → Bool
+namesHeld d j n = eqb n (heldFor d j)
+
 unfoldable pub onTransfer : Desk → ℕ → ℕ → ℕ → Effect
 onTransfer d j x n =
-    cond (eqb n (heldFor d j)) (effect (withEntries d (d .held) (put (d .heir) j x) (d .inquired)) []) (effect d [])
+    cond (namesHeld d j n) (effect (withEntries d (d .held) (put (d .heir) j x) (d .inquired)) []) (effect d [])

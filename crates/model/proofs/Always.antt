@@ -1,0 +1,350 @@
+-- Every state of a run is well shaped, its numbers are small, and no reply, yield or plain release under way is stray.
+use Prim.Native.Nat.{ℕ, zero, suc, _+_, _*_, _≤_, _<_}
+use mathlib.Core.Path.{_≡_, refl, sym, _∙_, ap}
+use mathlib.Core.Logic.{_≢_, _⊎_, ⊎-elim}
+use mathlib.Core.Bool.{Bool, true, false, not, _&&_, _||_, cond}
+use mathlib.Core.List.{List, [], _∷_, _++_, map}
+use native.Mathlib.Omega.{arith}
+use native.Mathlib.Numerals.{add-one}
+use lib.Dec.{eqb, leb, ltb}
+use lib.ListN.{length}
+use lib.Seq.{length-take-le}
+use borrow.Author.Tests.{eqb-true, eqb-false, eq-eqb, ne-eqb, leb-true, leb-false, le-leb}
+use Rattle.basics.specs.Helpers.{all}
+use Rattle.basics.proofs.Basics.{by-bool, clash, and-split, all-of, or-second}
+use Rattle.basics.proofs.Lists.{All}
+use Rattle.rig.specs.declared.Event.{Event}
+use Rattle.rig.specs.declared.Message.{Message}
+use Rattle.rig.specs.declared.Mode.{Mode}
+use Rattle.rig.specs.declared.Mode.the-variants.{Rest, Waiting, Inside}
+use Rattle.rig.specs.Limits.{siteLimit, messageLimit, eventLimit, numberLimit}
+use Rattle.protocol.specs.Message as M
+use Rattle.protocol.specs.System.{System, Lawful, settingOf}
+use Rattle.protocol.specs.Rig as R
+use Rattle.protocol.proofs.Seen.{viewOf}
+use Rattle.protocol.proofs.Clauses.{Clauses, FitsTables}
+use Rattle.protocol.proofs.RigInvariant.{RigInvariant, clauses-at, all-fit}
+use Rattle.protocol.proofs.Invariant.{numberOf}
+use Rattle.protocol.proofs.Numbers.{RigBelow, SentBelow, step-bounded, run-numbers}
+use Rattle.model.specs.Tables.{at, cell}
+use Rattle.model.specs.Setup.{setupCode, keptSets}
+use Rattle.model.specs.State.{Tables, seqIn, sizeOf, inRange, hasMember, siteOf, modeOf, arbiterOf, heldOf, heirOf, inquiredOf, queuedOf, deskOf}
+use Rattle.model.specs.Shape.{isNumber, isGiven, setsShaped, acceptedShaped, modeShaped, siteBlank, siteShaped, sitesShaped, holderShaped, arbiterShaped, arbitersShaped, entryShaped, heldShaped, inquiredShaped, heirShaped, queuedShaped, everywhere, numberShaped, aboutShaped, messageShaped, messagesShaped, tablesShaped, wellShaped}
+use Rattle.model.specs.Setup.{restingSite, freeArbiter}
+use Rattle.model.specs.State.{withDesk}
+use Rattle.model.specs.Desk.{Effect}
+use Rattle.model.specs.Event.{actor, sitesNamed, Attempt, refused, possible, attempt, allNumbers, numbersFit, limitCode, Stored, underWay, settled, judged, event}
+use Rattle.model.specs.Arbiter.{fromHolder, isEarly}
+use Rattle.model.specs.Site.{takes}
+use Rattle.model.specs.Always.{Always, NineByCount, numbersUpTo, NumbersWithin, NumbersSmall, AlwaysShaped, fitsRule, allFit, NeverStray}
+use Rattle.model.proofs.Setup.{Accepted, accepts, accepted-code}
+use Rattle.model.proofs.Machine.{modeNumber, sentOf, rigOf, rests-same, waits-same}
+use Rattle.model.proofs.Lawful.{systemFrom, lawful, kept-past, kept-accepted}
+use Rattle.model.proofs.Plain.{wireOf, wire, Plain, AllPlain, both}
+use Rattle.model.proofs.Tables.{at-put-same}
+use Rattle.model.proofs.Reached.{Reached, Move, Moves, attempt-moves, moved}
+use Rattle.model.proofs.Theorem.{invariant, run-of}
+
+-- the number of a message is the machine's
+number-of : (b j : ℕ) (m : M.Message) → numberOf m ≤ b → wireOf j m .number ≤ b
+number-of b j (M.request k n) h = h
+number-of b j (M.reply f k n) h = h
+number-of b j (M.release k n) h = h
+number-of b j (M.handOver k x n) h = h
+number-of b j (M.inquire k n) h = h
+number-of b j (M.fail k) h = h
+number-of b j (M.yield k n) h = h
+number-of b j (M.transfer k x n) h = h
+
+numbers-of : (b : ℕ) (ms : List Message) → AllPlain ms → All (SentBelow b) (map sentOf ms) → numbersUpTo b ms ≡ true
+unfolding All numbersUpTo
+numbers-of b [] p h = refl
+numbers-of b (m ∷ ms) p h =
+    let w = number-of b ((sentOf m) .arbiter) ((sentOf m) .message) (h .0) in
+    rw (le-leb (m .number) b (rw (p .0) at w), numbers-of b ms (p .1) (h .1))
+
+is-number : (n : ℕ) → n ≤ numberLimit → isNumber n ≡ true
+unfolding isNumber
+is-number n h = le-leb n numberLimit h
+
+is-given : (n : ℕ) → 1 ≤ n → n ≤ numberLimit → isGiven n ≡ true
+unfolding isGiven
+is-given n a b = rw (le-leb 1 n a, is-number n b)
+
+-- an entry that is 0 unless the site is tied to the arbiter
+entry-shaped : (tie : Bool) (n : ℕ) → n ≤ numberLimit → (n ≢ 0 → tie ≡ true) → entryShaped tie n ≡ true
+unfolding entryShaped
+entry-shaped true n a b = is-number n a
+entry-shaped false n a b = by-bool (eqb n 0) (λ e. e) (λ e. clash false (b (eqb-false n 0 e)) refl)
+
+everywhere-of : (p : ℕ → ℕ → Bool) → ((i j : ℕ) → 1 ≤ i → i ≤ siteLimit → 1 ≤ j → j ≤ siteLimit → p i j ≡ true) → everywhere p ≡ true
+unfolding everywhere
+everywhere-of p h = all-of _ siteLimit (λ i a b. all-of (p i) siteLimit (λ j c d. h i j a b c d))
+
+in-range : (t : Tables) (k : ℕ) → 1 ≤ k → k ≤ sizeOf t → inRange t k ≡ true
+in-range t k a b = rw (le-leb 1 k a, le-leb k (sizeOf t) b)
+
+-- the last messages of a list
+last-numbers : (b : ℕ) (xs ys : List Message) → b ≤ numberLimit → numbersUpTo b (xs ++ ys) ≡ true → allNumbers ys ≡ true
+unfolding numbersUpTo allNumbers
+last-numbers b [] [] l h = refl
+last-numbers b [] (m ∷ ms) l h =
+    let w = and-split (leb (m .number) b) _ h in
+    rw (is-number (m .number) (omega (arith, leb-true _ b (w .0))), last-numbers b [] ms l (w .1))
+last-numbers b (x ∷ xs) ys l h = last-numbers b xs ys l (and-split (leb (x .number) b) _ h .1)
+
+module _ (n : ℕ) (l : List ℕ) (a : Accepted n l) (past : (k : ℕ) → n < k → at 0 l k ≡ 0) (s : Stored) (r : Reached n l s) where
+  abbrev y : System
+  y = systemFrom n l
+
+  abbrev t : Tables
+  t = s .tables
+
+  abbrev state : R.Rig
+  state = rigOf t (underWay s)
+
+  abbrev bound : ℕ
+  bound = 2 * t .rig .accepted
+
+  bound-fits : bound ≤ numberLimit
+  bound-fits = omega (arith, r .bounded)
+
+  below : RigBelow bound state
+  below = rw (r .same, r .counted) (run-numbers y (r .events))
+
+  pub numbers-within : NumbersWithin bound s
+  numbers-within = record {
+    clock = below .clock;
+    seq = below .seq;
+    grant = λ j. below .rows j .grant;
+    holderSeq = λ j. below .rows j .holderSeq;
+    held = λ k j. below .rows j .held k;
+    inquired = λ k j. below .rows j .inquired k;
+    queued = λ j k. below .rows j .queued k;
+    messages = numbers-of bound (underWay s) (r .plain) (below .underWay);
+  }
+
+  inv : RigInvariant y state
+  inv = invariant n l a past s r
+
+  -- the clauses of arbiter j
+  clauses : (j : ℕ) → Clauses (settingOf y j) (viewOf state j)
+  clauses j = clauses-at y (lawful n l a past) state inv j
+
+  -- sets and members as the machine has them
+  member-same : (k j : ℕ) → hasMember t k j ≡ y.sets k j
+  member-same k j = rw (r .sets)
+
+  sets-shaped : setsShaped t ≡ true
+  unfolding setsShaped
+  sets-shaped =
+      rw (r .size, r .sets, accepted-code n l a)
+      (all-of _ siteLimit (λ k b c. by-bool (leb k n) (λ e. rw e) (λ e. rw (e, past k (leb-false k n e)))))
+
+  accepted-shaped : acceptedShaped t ≡ true
+  unfolding acceptedShaped
+  accepted-shaped = le-leb (t .rig .accepted) eventLimit (r .bounded)
+
+  mode-shaped : (m : Mode) (k : ℕ) → modeOf t k ≡ m → modeShaped m ≡ true
+  unfolding modeShaped
+  mode-shaped Rest k e = refl
+  mode-shaped (Waiting q f) k e =
+      let w = clauses 1 .waitingNumbered k (ap modeNumber e) in
+      let b = below .seq k in
+      let q1 : seqIn (modeOf t k) ≡ q = ap seqIn e in
+      is-given q (omega arith) (omega (arith, bound-fits))
+  mode-shaped Inside k e = refl
+
+  -- all past N is 0
+  zero-past : (k x : ℕ) → (x ≢ 0 → (1 ≤ k) × (k ≤ n)) → inRange t k ≡ false → eqb x 0 ≡ true
+  zero-past k x h e = by-bool (eqb x 0) (λ z. z)
+      (λ z. let w = h (eqb-false x 0 z) in clash (inRange t k) (in-range t k (w .0) (rw (r .size) (w .1))) e)
+
+  site-shaped : (k : ℕ) → siteShaped t k ≡ true
+  unfolding siteShaped siteBlank
+  site-shaped k = by-bool (inRange t k)
+      (λ e. rw (e, is-number (siteOf t k .clock) (omega (arith, below .clock k, bound-fits)), mode-shaped (modeOf t k) k refl))
+      (λ e. rw (e, zero-past k (siteOf t k .clock) (inv .clockInRange k) e, ← rests-same (modeOf t k), zero-past k (modeNumber (modeOf t k)) (inv .inRange k) e))
+
+  arbiter-shaped : (j : ℕ) → arbiterShaped t j ≡ true
+  unfolding arbiterShaped holderShaped
+  arbiter-shaped j =
+      let c = clauses j .holderRange in
+      let q = below .rows j .holderSeq in
+      let fits : inRange t j || eqb (arbiterOf t j .grant) 0 ≡ true = by-bool (inRange t j) (λ e. rw e) (λ e. rw (e, zero-past j (arbiterOf t j .grant) (inv .grantInRange j) e)) in
+      rw (is-number (arbiterOf t j .grant) (omega (arith, below .rows j .grant, bound-fits)), fits)
+      (by-bool (eqb (arbiterOf t j .holder) 0)
+      (λ e. rw (e, eq-eqb (arbiterOf t j .seq) 0 (c .1 (eqb-true _ 0 e))))
+      (λ e. let h = c .0 (eqb-false _ 0 e) in rw (e, member-same (arbiterOf t j .holder) j, h .2, is-given (arbiterOf t j .seq) (h .0) (omega (arith, q, bound-fits)))))
+
+  held-shaped : (k j : ℕ) → heldShaped t k j ≡ true
+  unfolding heldShaped
+  held-shaped k j = entry-shaped _ _ (omega (arith, below .rows j .held k, bound-fits)) (λ h. member-same k j ∙ clauses j .T2 k h .1)
+
+  inquired-shaped : (k j : ℕ) → inquiredShaped t k j ≡ true
+  unfolding inquiredShaped
+  inquired-shaped k j = entry-shaped _ _ (omega (arith, below .rows j .inquired k, bound-fits)) (λ h. member-same k j ∙ clauses j .T8 k h .1)
+
+  queued-shaped : (j k : ℕ) → queuedShaped t j k ≡ true
+  unfolding queuedShaped
+  queued-shaped j k = entry-shaped _ _ (omega (arith, below .rows j .queued k, bound-fits)) (λ h. member-same k j ∙ clauses j .queuedMember k h)
+
+  heir-shaped : (k j : ℕ) → heirShaped t k j ≡ true
+  unfolding heirShaped
+  heir-shaped k j = by-bool (eqb (heirOf t k j) 0) (λ e. rw e)
+      (λ e. let h = clauses j .T7 k (eqb-false _ 0 e) in rw (e, member-same k j, h .3, member-same (heirOf t k j) j, h .4))
+
+  tables-shaped : tablesShaped t ≡ true
+  unfolding tablesShaped sitesShaped arbitersShaped
+  tables-shaped =
+      rw (
+        sets-shaped,
+        accepted-shaped,
+        all-of (siteShaped t) siteLimit (λ k b c. site-shaped k),
+        all-of (arbiterShaped t) siteLimit (λ j b c. arbiter-shaped j),
+        everywhere-of (heldShaped t) (λ k j b c d e. held-shaped k j),
+        everywhere-of (heirShaped t) (λ k j b c d e. heir-shaped k j),
+        everywhere-of (inquiredShaped t) (λ k j b c d e. inquired-shaped k j),
+        everywhere-of (queuedShaped t) (λ j k b c d e. queued-shaped j k),
+      )
+
+  -- Messages
+
+  law : Lawful y
+  law = lawful n l a past
+
+  -- the two ends of a tie are sites 1 to N
+  site-in : (k j : ℕ) → y.sets k j ≡ true → inRange t k ≡ true
+  site-in k j e = let w = law .siteInRange k j e in in-range t k (w .0) (rw (r .size) (w .1))
+
+  arbiter-in : (k j : ℕ) → y.sets k j ≡ true → inRange t j ≡ true
+  arbiter-in k j e = let w = law .memberInRange k j e in in-range t j (w .0) (rw (r .size) (w .1))
+
+  tie : (k j : ℕ) → y.sets k j ≡ true → hasMember t k j ≡ true
+  tie k j e = member-same k j ∙ e
+
+  given : (x : ℕ) → 1 ≤ x → x ≤ bound → isGiven x ≡ true
+  given x b c = is-given x b (omega (arith, bound-fits))
+
+  wire-shaped : (j : ℕ) (m : M.Message) → FitsTables (settingOf y j) (viewOf state j) m → numberOf m ≤ bound → messageShaped t (wireOf j m) ≡ true
+  unfolding FitsTables messageShaped numberShaped aboutShaped
+  wire-shaped j (M.request k x) f b = rw (site-in k j (f .3), arbiter-in k j (f .3), given x (f .2) b, tie k j (f .3))
+  wire-shaped j (M.reply u k x) f b = rw (in-range t u (f .4) (rw (r .size) (f .5)), site-in k j (f .3), given x (f .2) b, tie k j (f .3))
+  wire-shaped j (M.release k x) f b = rw (site-in k j (f .2), arbiter-in k j (f .2), given x (f .1) b, tie k j (f .2))
+  wire-shaped j (M.handOver k h x) f b =
+      rw (site-in k j (f .2), arbiter-in k j (f .2), given x (f .4) b, tie k j (f .2), tie h j (f .3)) (or-second (eqb h 0) true refl)
+  wire-shaped j (M.inquire k x) f b = rw (site-in k j (f .2), arbiter-in k j (f .2), given x (f .0) b, tie k j (f .2))
+  wire-shaped j (M.fail k) f b = rw (site-in k j f, arbiter-in k j f, tie k j f)
+  wire-shaped j (M.yield k x) f b = rw (site-in k j (f .6), arbiter-in k j (f .6), given x (f .5) b, tie k j (f .6))
+  wire-shaped j (M.transfer k h x) f b = rw (site-in k j (f .3), arbiter-in k j (f .3), given x (f .0) b, tie k j (f .3), tie h j (f .4))
+
+  abbrev Fits : R.Sent → Type 0
+  Fits x = FitsTables (settingOf y x.arbiter) (viewOf state x.arbiter) x.message
+
+  messages-shaped : (ms : List Message) → AllPlain ms → All Fits (map sentOf ms) → All (SentBelow bound) (map sentOf ms) → messagesShaped t ms ≡ true
+  unfolding All messagesShaped
+  messages-shaped [] p f b = refl
+  messages-shaped (m ∷ ms) p f b =
+      let w = wire-shaped ((sentOf m) .arbiter) ((sentOf m) .message) (f .0) (b .0) in
+      rw (rw (p .0) at w, messages-shaped ms (p .1) (f .1) (b .1))
+
+  every-fits : All Fits (map sentOf (underWay s))
+  every-fits = all-fit y law state inv
+
+  pub well-shaped : wellShaped t (underWay s) ≡ true
+  unfolding wellShaped
+  well-shaped = rw (
+    tables-shaped,
+    le-leb (length (underWay s)) messageLimit (rw (length-take-le (s .count) (s .list) (rw (r .long) (r .few))) (r .few)),
+    messages-shaped (underWay s) (r .plain) every-fits (below .underWay),
+  )
+
+  -- No reply, yield or plain release is stray
+
+  wire-fits : (j : ℕ) (m : M.Message) → FitsTables (settingOf y j) (viewOf state j) m → fitsRule t (wireOf j m) ≡ true
+  unfolding FitsTables fitsRule takes fromHolder isEarly deskOf cell
+  wire-fits j (M.request k x) f = refl
+  wire-fits j (M.reply u k x) f = rw (← waits-same (modeOf t k), f .1, tie k j (f .3)) (eq-eqb (heldOf t k j) 0 (f .6))
+  wire-fits j (M.release k x) f = ⊎-elim
+      (λ h. rw (eq-eqb x (arbiterOf t j .grant) (h .1), eq-eqb k (arbiterOf t j .holder) (h .0)))
+      (λ h. or-second (fromHolder (deskOf t j) k x) (isEarly (deskOf t j) k 0 x) (rw (eq-eqb x (arbiterOf t j .grant + 1) (h .0 ∙ sym (add-one _)), ne-eqb (queuedOf t j k) 0 (h .1))))
+      (f .0)
+  wire-fits j (M.handOver k h x) f = let w = law .siteInRange h j (f .3) .0 in rw (ne-eqb h 0 (omega arith))
+  wire-fits j (M.inquire k x) f = refl
+  wire-fits j (M.fail k) f = refl
+  wire-fits j (M.yield k x) f = rw (eq-eqb x (arbiterOf t j .grant) (f .1), eq-eqb k (arbiterOf t j .holder) (f .0))
+  wire-fits j (M.transfer k h x) f = refl
+
+  all-fitting : (ms : List Message) → AllPlain ms → All Fits (map sentOf ms) → allFit t ms ≡ true
+  unfolding All allFit
+  all-fitting [] p f = refl
+  all-fitting (m ∷ ms) p f =
+      let w = wire-fits ((sentOf m) .arbiter) ((sentOf m) .message) (f .0) in
+      rw (rw (p .0) at w, all-fitting ms (p .1) (f .1))
+
+  pub never-stray : allFit t (underWay s) ≡ true
+  never-stray = all-fitting (underWay s) (r .plain) every-fits
+
+  -- 9 comes from the count of events alone
+
+  numbers-fit : (k : ℕ) (e : Effect) (rest : List Message) → Move s k e rest → t .rig .accepted < eventLimit → numbersFit e ≡ true
+  unfolding numbersFit withDesk
+  numbers-fit k e rest v c =
+      let b = suc (suc bound) in
+      let fits : b ≤ numberLimit = omega arith in
+      let next : RigBelow b (rigOf (withDesk t k (e .desk) 0) (rest ++ e .sent)) = rw (moved n l s k e rest r v 0) (step-bounded y bound state (v .step) below) in
+      let clock : e .desk .site .clock ≤ b = rw (at-put-same restingSite (t .rig .sites) k (e .desk .site) (v .low) (rw (r .sized .sites) (v .high))) at (next .clock k) in
+      let grant : e .desk .arbiter .grant ≤ b = rw (at-put-same freeArbiter (t .rig .arbiters) k (e .desk .arbiter) (v .low) (rw (r .sized .arbiters) (v .high))) at (next .rows k .grant) in
+      rw (
+        is-number (e .desk .site .clock) (omega arith),
+        is-number (e .desk .arbiter .grant) (omega arith),
+        last-numbers b rest (e .sent) fits (numbers-of b (rest ++ e .sent) (both rest (e .sent) (v .rests) (v .sends)) (next .underWay)),
+      )
+
+  limit-nine : (k : ℕ) (e : Effect) (rest : List Message) → Move s k e rest → limitCode t e rest ≡ 9 → t .rig .accepted ≡ eventLimit
+  unfolding limitCode
+  limit-nine k e rest v h = by-bool (leb eventLimit (t .rig .accepted))
+      (λ c. omega (arith, leb-true eventLimit (t .rig .accepted) c, r .bounded))
+      (λ c. let f = numbers-fit k e rest v (leb-false eventLimit (t .rig .accepted) c) in
+      by-bool (ltb messageLimit (length rest + length (e .sent)))
+      (λ d. let x : _≡_ {A = ℕ} 8 9 = rw (c, f, d) at h in absurd (omega arith))
+      (λ d. let x : _≡_ {A = ℕ} 0 9 = rw (c, f, d) at h in absurd (omega arith)))
+
+  judged-nine : (k : ℕ) (q : Attempt) → Moves s k q → judged s k q .code ≡ 9 → t .rig .accepted ≡ eventLimit
+  unfolding judged settled
+  judged-nine k (refused c) v h = absurd (v h)
+  judged-nine k (possible e rest) v h = limit-nine k e rest v h
+
+  pub nine-by-count : (e : Event) → event s e .code ≡ 9 → t .rig .accepted ≡ eventLimit
+  unfolding event
+  nine-by-count e h =
+      by-bool (eqb (length (s .list)) messageLimit)
+      (λ b. by-bool (leb (s .count) messageLimit && wellShaped t (underWay s))
+      (λ c. by-bool (sitesNamed t e)
+      (λ d. judged-nine (actor e) _ (attempt-moves n l s r well-shaped e d) (rw (b, c, d) at h))
+      (λ d. let x : _≡_ {A = ℕ} 4 9 = rw (b, c, d) at h in absurd (omega arith)))
+      (λ c. let x : _≡_ {A = ℕ} 10 9 = rw (b, c) at h in absurd (omega arith)))
+      (λ b. let x : _≡_ {A = ℕ} 13 9 = rw b at h in absurd (omega arith))
+
+-- Said of every run
+
+always : (P : Stored → Type 0) → ((n : ℕ) (l : List ℕ) → Accepted n l → ((k : ℕ) → n < k → at 0 l k ≡ 0) → (s : Stored) → Reached n l s → P s) → Always P
+always P h n sets list es e long =
+    let a = accepts n sets e in
+    h n (keptSets n sets) (kept-accepted n sets a) (kept-past n sets a) _ (run-of n sets list es e long)
+
+pub always-shaped : AlwaysShaped
+unfolding AlwaysShaped
+always-shaped = always _ well-shaped
+
+pub numbers-small : NumbersSmall
+unfolding NumbersSmall
+numbers-small = always _ numbers-within
+
+pub nine-by-events : NineByCount
+unfolding NineByCount
+nine-by-events = always _ nine-by-count
+
+pub no-stray : NeverStray
+unfolding NeverStray
+no-stray = always _ never-stray

@@ -1,0 +1,128 @@
+-- A delivery: the first message of a channel is the same one in the definitions and in the machine, and each kind comes to the same
+-- state of the whole rig.
+use Prim.Native.Nat.{ℕ, zero, suc, _+_, _≤_, _<_}
+use mathlib.Core.Path.{_≡_, refl, sym, _∙_, ap}
+use mathlib.Core.Logic.{_≢_}
+use mathlib.Core.Bool.{Bool, true, false, not, _&&_, _||_, cond}
+use mathlib.Core.List.{List, [], _∷_, _++_, map}
+use mathlib.Core.Option.{Option, none, some}
+use native.Mathlib.Omega.{arith}
+use lib.Dec.{eqb, leb}
+use borrow.Author.Tests.{eqb-true, eqb-false, ne-eqb, leb-true}
+use Rattle.basics.specs.Helpers.{first, withoutFirst}
+use Rattle.basics.proofs.Basics.{by-bool, clash, and-split}
+use Rattle.rig.specs.declared.Message.{Message}
+use Rattle.rig.specs.Limits.{siteLimit}
+use Rattle.rig.specs.Messages.{REQUEST, REPLY, RELEASE, INQUIRE, FAIL, YIELD, TRANSFER}
+use Rattle.protocol.specs.Rig as R
+use Rattle.model.specs.State.{Tables, sizeOf, inRange, hasMember, deskOf, withDesk}
+use Rattle.model.specs.Deliver.{between, delivered}
+use Rattle.model.specs.Shape.{numberShaped, aboutShaped, messageShaped, messagesShaped}
+use Rattle.model.proofs.Machine.{systemOf, sentOf, rigOf, Sized}
+use Rattle.model.proofs.Shaped.{Shaped, ties}
+use Rattle.model.proofs.ArbiterDelivered.{request-delivered, release-delivered, handOver-delivered, yield-delivered}
+use Rattle.model.proofs.SiteDelivered.{transfer-delivered, inquire-delivered}
+use Rattle.model.proofs.ReplyDelivered.{reply-delivered}
+use Rattle.model.proofs.FailDelivered.{fail-delivered}
+
+-- by a message's kind
+pub by-kind {ℓ} : {C : Type ℓ} (k : ℕ) → (k ≡ REQUEST → C) → (k ≡ REPLY → C) → (k ≡ RELEASE → C) → (k ≡ INQUIRE → C) → (k ≡ FAIL → C) → (k ≡ YIELD → C) → (k ≡ TRANSFER → C)
+    → (k ≢ REQUEST → k ≢ REPLY → k ≢ RELEASE → k ≢ INQUIRE → k ≢ FAIL → k ≢ YIELD → k ≢ TRANSFER → C) → C
+by-kind k c1 c2 c3 c4 c5 c6 c7 c0 =
+    by-bool (eqb k REQUEST) (λ e. c1 (eqb-true k _ e))
+    (λ n1. by-bool (eqb k REPLY) (λ e. c2 (eqb-true k _ e))
+    (λ n2. by-bool (eqb k RELEASE) (λ e. c3 (eqb-true k _ e))
+    (λ n3. by-bool (eqb k INQUIRE) (λ e. c4 (eqb-true k _ e))
+    (λ n4. by-bool (eqb k FAIL) (λ e. c5 (eqb-true k _ e))
+    (λ n5. by-bool (eqb k YIELD) (λ e. c6 (eqb-true k _ e))
+    (λ n6. by-bool (eqb k TRANSFER) (λ e. c7 (eqb-true k _ e))
+    (λ n7. c0 (eqb-false k _ n1) (eqb-false k _ n2) (eqb-false k _ n3) (eqb-false k _ n4) (eqb-false k _ n5) (eqb-false k _ n6) (eqb-false k _ n7))))))))
+
+-- a message goes the same way in both
+way-same : (a b : ℕ) (m : Message) → R.channel a b (sentOf m) ≡ between a b m
+unfolding between
+way-same a b m =
+    by-kind (m .kind)
+    (λ e. rw e)
+    (λ e. rw e)
+    (λ e. rw e (by-bool (eqb (m .about) 0) (λ h. rw h) (λ h. rw h)))
+    (λ e. rw e)
+    (λ e. rw e)
+    (λ e. rw e)
+    (λ e. rw e)
+    (λ n1 n2 n3 n4 n5 n6 n7. rw (ne-eqb _ _ n1, ne-eqb _ _ n2, ne-eqb _ _ n3, ne-eqb _ _ n4, ne-eqb _ _ n5, ne-eqb _ _ n6))
+
+first-same : (a b : ℕ) (ms : List Message) (m : Message) → first (between a b) ms ≡ some m → first (R.channel a b) (map sentOf ms) ≡ some (sentOf m)
+unfolding first
+first-same a b [] m e = let z : _≡_ {A = ℕ} 0 1 = cc in absurd (omega arith)
+first-same a b (x ∷ ms) m e =
+    rw (way-same a b x)
+    (by-bool (between a b x)
+    (λ h. let q : x ≡ m = cc in rw (h, q))
+    (λ h. rw h (first-same a b ms m (rw h at e))))
+
+rest-same : (a b : ℕ) (ms : List Message) → withoutFirst (R.channel a b) (map sentOf ms) ≡ map sentOf (withoutFirst (between a b) ms)
+unfolding withoutFirst
+rest-same a b [] = refl
+rest-same a b (m ∷ ms) = rw (way-same a b m) (by-bool (between a b m) (λ h. rw h) (λ h. rw (h, rest-same a b ms)))
+
+-- the delivery of m is the machine's
+pub step-delivers : (t : Tables) (ms : List Message) (a b : ℕ) (m : Message) → first (between a b) ms ≡ some m
+    → R.step (systemOf t) (rigOf t ms) (R.deliver a b) ≡ R.delivered (systemOf t) (rigOf t ms) (map sentOf (withoutFirst (between a b) ms)) ((sentOf m) .arbiter) ((sentOf m) .message)
+unfolding R.step R.takenOff
+step-delivers t ms a b m e = rw (first-same a b ms m e, rest-same a b ms)
+
+-- the message that is taken off is well shaped, and goes to b
+pub first-shaped : (t : Tables) (a b : ℕ) (ms : List Message) (m : Message) → messagesShaped t ms ≡ true → first (between a b) ms ≡ some m → (messageShaped t m ≡ true) × (b ≡ m .to)
+unfolding messagesShaped first between
+first-shaped t a b [] m s e = let z : _≡_ {A = ℕ} 0 1 = cc in absurd (omega arith)
+first-shaped t a b (x ∷ ms) m s e =
+    let w = and-split (messageShaped t x) (messagesShaped t ms) s in
+    by-bool (between a b x)
+    (λ h. let q : x ≡ m = cc in (rw q at (w .0), eqb-true b (x .to) (and-split (eqb a (x .from)) (eqb b (x .to)) h .1) ∙ ap (λ (y : Message). y .to) q))
+    (λ h. first-shaped t a b ms m (w .1) (rw h at e))
+
+pub within : (t : Tables) (k : ℕ) → inRange t k ≡ true → (1 ≤ k) × (k ≤ sizeOf t)
+within t k e = let w = and-split (leb 1 k) (leb k (sizeOf t)) e in (leb-true 1 k (w .0), leb-true k (sizeOf t) (w .1))
+
+module _ (t : Tables) (z : Sized t) (under : List Message) (s : Shaped t under) (m : Message) (e : messageShaped t m ≡ true) where
+  pub ends : ((1 ≤ m .from) × (m .from ≤ siteLimit)) × ((1 ≤ m .to) × (m .to ≤ siteLimit)) × (aboutShaped t m ≡ true)
+  unfolding messageShaped
+  ends =
+      let n = z .size in
+      let a = and-split (inRange t (m .from)) _ e in
+      let b = and-split (inRange t (m .to)) _ (a .1) in
+      let c = and-split (numberShaped m) (aboutShaped t m) (b .1) in
+      let f = within t (m .from) (a .0) in
+      let g = within t (m .to) (b .0) in
+      let f1 = f .1 in let g1 = g .1 in
+      ((f .0, omega arith), (g .0, omega arith), c .1)
+
+  -- a member of a site's set is a site
+  member-in : (k j : ℕ) → hasMember t k j ≡ true → ((1 ≤ k) × (k ≤ siteLimit)) × ((1 ≤ j) × (j ≤ siteLimit))
+  member-in k j h =
+      let w = ties t under s k j h in
+      let n = z .size in let w1 = w .1 in let w3 = w .3 in
+      ((w .0, omega arith), (w .2, omega arith))
+
+  pub delivered-same : (n : ℕ) (rest ms : List Message)
+      → rigOf (withDesk t (m .to) (delivered (deskOf t (m .to)) m .desk) n) (rest ++ delivered (deskOf t (m .to)) m .sent) ≡ R.delivered (systemOf t) (rigOf t ms) (map sentOf rest) ((sentOf m) .arbiter) ((sentOf m) .message)
+  unfolding delivered aboutShaped
+  delivered-same n rest ms =
+      let fr = ends .0 in
+      let to = ends .1 in
+      let ab = ends .2 in
+      by-kind (m .kind)
+      (λ k. rw k (request-delivered t z (m .to) (to .0) (to .1) n rest ms (m .from) (m .number) (fr .0) (fr .1)))
+      (λ k. let a = member-in (m .to) (m .about) (rw k at ab) .1 in
+      rw k (reply-delivered t z (m .to) (to .0) (to .1) n rest (m .about) (a .0) (a .1) (m .number) ms (m .from)))
+      (λ k. let a = and-split (hasMember t (m .from) (m .to)) (eqb (m .about) 0 || hasMember t (m .about) (m .to)) (rw k at ab) .1 in
+      rw k (by-bool (eqb (m .about) 0)
+      (λ h. rw (h, eqb-true (m .about) 0 h) (release-delivered t z (m .to) (to .0) (to .1) n rest ms (m .from) (m .number) (fr .0) (fr .1)))
+      (λ h. let b = member-in (m .about) (m .to) (rw h at a) .0 in
+      rw h (handOver-delivered t z (m .to) (to .0) (to .1) n rest ms (m .from) (m .about) (m .number) (b .0) (b .1)))))
+      (λ k. rw k (inquire-delivered t z (m .to) (to .0) (to .1) n rest (m .from) (fr .0) (fr .1) ms (m .number)))
+      (λ k. rw k (fail-delivered t z (m .to) (to .0) (to .1) n rest ms (λ j h. let w = ties t under s (m .to) j h in (w .2, w .3)) (m .from)))
+      (λ k. rw k (yield-delivered t z (m .to) (to .0) (to .1) n rest ms (m .from) (m .number) (fr .0) (fr .1)))
+      (λ k. rw k (transfer-delivered t z (m .to) (to .0) (to .1) n rest (m .from) (fr .0) (fr .1) ms (m .about) (m .number)))
+      (λ n1 n2 n3 n4 n5 n6 n7. clash (aboutShaped t m) ab (rw (ne-eqb _ _ n1, ne-eqb _ _ n2, ne-eqb _ _ n3, ne-eqb _ _ n4, ne-eqb _ _ n5, ne-eqb _ _ n6, ne-eqb _ _ n7)))

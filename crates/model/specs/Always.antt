@@ -1,0 +1,68 @@
+-- What else holds of every state of a run, beside demand 3.
+use Prim.Native.Nat.{ℕ, _*_, _≤_}
+use mathlib.Core.Path.{_≡_}
+use mathlib.Core.Bool.{Bool, true, _&&_, _||_, cond}
+use mathlib.Core.List.{List, [], _∷_}
+use lib.Dec.{eqb, leb}
+use lib.ListN.{length}
+use Rattle.rig.specs.declared.Event.{Event}
+use Rattle.rig.specs.declared.Message.{Message}
+use Rattle.rig.specs.Limits.{messageLimit, eventLimit}
+use Rattle.rig.specs.Messages.{REPLY, RELEASE, YIELD}
+use Rattle.model.specs.Setup.{setupCode}
+use Rattle.model.specs.State.{Tables, seqIn, siteOf, modeOf, arbiterOf, heldOf, inquiredOf, queuedOf, deskOf}
+use Rattle.model.specs.Arbiter.{fromHolder, isEarly}
+use Rattle.model.specs.Site.{takes}
+use Rattle.model.specs.Shape.{wellShaped}
+use Rattle.model.specs.Event.{Stored, underWay, event}
+use Rattle.model.specs.Run.{fresh, run}
+
+-- a property of every state of every run of sets that setup passes
+abbrev pub Always : (Stored → Type 0) → Type 0
+Always P =
+    (n : ℕ) (sets : List ℕ) (list : List Message) (es : List Event) →
+    setupCode n sets ≡ 0 → length list ≡ messageLimit → P (run (fresh n sets list) es)
+
+-- Every state of a run is well shaped, so no event of a run is refused with 10.
+unfoldable pub AlwaysShaped : Type 0
+AlwaysShaped = Always (λ s. wellShaped (s .tables) (underWay s) ≡ true)
+
+-- every clock, sequence and grant number is at most b
+unfoldable pub numbersUpTo : ℕ → List Message → Bool
+numbersUpTo b [] = true
+numbersUpTo b (m ∷ ms) = leb (m .number) b && numbersUpTo b ms
+
+pub record NumbersWithin (b : ℕ) (s : Stored) : Type 0 where
+  pub clock : (k : ℕ) → siteOf (s .tables) k .clock ≤ b
+  pub seq : (k : ℕ) → seqIn (modeOf (s .tables) k) ≤ b
+  pub grant : (j : ℕ) → arbiterOf (s .tables) j .grant ≤ b
+  pub holderSeq : (j : ℕ) → arbiterOf (s .tables) j .seq ≤ b
+  pub held : (k j : ℕ) → heldOf (s .tables) k j ≤ b
+  pub inquired : (k j : ℕ) → inquiredOf (s .tables) k j ≤ b
+  pub queued : (j k : ℕ) → queuedOf (s .tables) j k ≤ b
+  pub messages : numbersUpTo b (underWay s) ≡ true
+
+-- No clock, sequence or grant number of a run passes twice the accepted events,
+unfoldable pub NumbersSmall : Type 0
+NumbersSmall = Always (λ s. NumbersWithin (2 * s .tables .rig .accepted) s)
+
+-- so 9 comes only from the count of events.
+unfoldable pub NineByCount : Type 0
+NineByCount = Always (λ s. (e : Event) → event s e .code ≡ 9 → s .tables .rig .accepted ≡ eventLimit)
+
+-- a reply, a yield or a plain release fits its rule at its receiver: it is not taken off without effect
+unfoldable pub fitsRule : Tables → Message → Bool
+fitsRule t m =
+    cond (eqb (m .kind) REPLY) (takes (deskOf t (m .to)) (m .about))
+    (cond (eqb (m .kind) YIELD) (fromHolder (deskOf t (m .to)) (m .from) (m .number))
+    (cond (eqb (m .kind) RELEASE && eqb (m .about) 0)
+    (fromHolder (deskOf t (m .to)) (m .from) (m .number) || isEarly (deskOf t (m .to)) (m .from) 0 (m .number))
+    true))
+
+unfoldable pub allFit : Tables → List Message → Bool
+allFit t [] = true
+allFit t (m ∷ ms) = fitsRule t m && allFit t ms
+
+-- A reply, yield or plain release under way always fits.
+unfoldable pub NeverStray : Type 0
+NeverStray = Always (λ s. allFit (s .tables) (underWay s) ≡ true)
