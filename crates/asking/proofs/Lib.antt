@@ -1,0 +1,2 @@
+-- Laws of messages sent one after another.
+pub mod Sends

@@ -1,0 +1,27 @@
+-- `leave`: what is sent on, and the desk with its entries cleared.
+use borrow.Author.Needs.{needs}
+use Rattle.model.specs.Leave.{left}
+use Rattle.asking.proofs.leave.Statement.{statement}
+use Rattle.asking.proofs.leave.Tie as tie
+use Rattle.asking.proofs.leave.Reads as reads
+use Rattle.asking.proofs.leave.Lts as lts
+use Rattle.asking.proofs.cleared.Reads as cleared-reads
+use Rattle.asking.proofs.hand_on_members.Reads as hand-on-members-reads
+
+hand-on-members-requires : tie.Need-hand-on-members-requires
+hand-on-members-requires c κs = search needs
+
+cleared-requires : tie.Need-cleared-requires
+cleared-requires c κs = search needs
+
+same-length : tie.Need-same-length
+same-length c = search needs
+
+returns : tie.Need-returns
+unfolding left
+returns c =
+    let s = c .before .before .before .hand-on-members .ensures in
+    record { desk = c .cleared .ensures; count = s .count; sent = s .sent }
+
+pub leave-spec : {M : Type 1} → statement M
+leave-spec = tie.close (tie.spec hand-on-members-requires cleared-requires same-length returns)

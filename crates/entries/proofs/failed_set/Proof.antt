@@ -1,0 +1,18 @@
+-- `failed_set`: the mode anew, its sequence number kept.
+use borrow.Author.Needs.{needs}
+use Rattle.model.specs.Site.{failedSet}
+use Rattle.entries.proofs.failed_set.Statement.{statement}
+use Rattle.entries.proofs.failed_set.Tie as tie
+use Rattle.entries.proofs.failed_set.Reads as reads
+use Rattle.entries.proofs.failed_set.Lts as lts
+use Rattle.entries.proofs.seq_in.Reads as seq-in-reads
+
+seq-in-requires : tie.Need-seq-in-requires
+seq-in-requires c κs = search needs
+
+returns : tie.Need-returns
+unfolding failedSet
+returns c = rw (c .seq-in .ensures)
+
+pub failed-set-spec : {M : Type 1} → statement M
+failed-set-spec = tie.close (tie.spec seq-in-requires returns)

@@ -1,0 +1,150 @@
+// A site's part of its desk: what it says, and how it changes. Each public function is an inner call.
+use rig::Desk;
+use rig::Mode;
+use rig::Rig;
+use rig::Site;
+ghost use mathlib.Core.Path.{_≡_};
+ghost use mathlib.Core.Bool.{not, _||_, cond};
+ghost use Prim.Native.Nat.{suc, _<_, _≤_};
+ghost use lib.Dec.{eqb};
+ghost use Rattle.rig.specs.Limits.{siteLimit};
+ghost use Rattle.model.specs.Sets.{member};
+ghost use Rattle.model.specs.State.{isWaiting, seqIn, failedIn};
+ghost use Rattle.model.specs.Site.{failedSet, allHeld, entered, taken, remembered, mustYield};
+ghost use Rattle.entries.specs.Asks.{Listed};
+
+pub fn is_waiting(s: Site) -> bool
+    ensures { λ r. ⌜ r ≡ isWaiting (s .mode) ⌝ }
+{
+    let m = s.mode;
+    match m {
+        Mode::Rest => false,
+        Mode::Waiting { seq: _, failed: _ } => true,
+        Mode::Inside => false,
+    }
+}
+
+fn seq_in(s: Site) -> u64
+    ensures { λ r. ⌜ r ≡ seqIn (s .mode) ⌝ }
+{
+    let m = s.mode;
+    match m {
+        Mode::Rest => 0,
+        Mode::Waiting { seq, failed: _ } => seq,
+        Mode::Inside => 0,
+    }
+}
+
+pub fn has_failed(s: Site) -> bool
+    ensures { λ r. ⌜ r ≡ failedIn (s .mode) ⌝ }
+{
+    let m = s.mode;
+    match m {
+        Mode::Rest => false,
+        Mode::Waiting { seq: _, failed } => failed,
+        Mode::Inside => false,
+    }
+}
+
+pub fn has(set: u64, j: u64) -> bool
+    requires { ⌜ Listed j ⌝ }
+    ensures { λ r. ⌜ r ≡ member set j ⌝ }
+{
+    (set >> (j - 1)) % 2 == 1
+}
+
+pub fn failed_set(d: Desk) -> Desk
+    ensures { λ r. ⌜ r ≡ failedSet d ⌝ }
+{
+    let s = d.site;
+    let site = Site {
+        mode: Mode::Waiting {
+            seq: seq_in(s),
+            failed: true,
+        },
+        clock: s.clock,
+    };
+    let mut e = d;
+    e.site = site;
+    e
+}
+
+// One turn of `all_held`: site i + 1 is outside the set, or held with number g.
+fn outside_or_held(set: u64, i: u64, g: u64) -> bool
+    requires { ⌜ i < siteLimit ⌝ }
+    ensures { λ r. ⌜ r ≡ not (member set (suc i)) || not (eqb g 0) ⌝ }
+{
+    if (set >> i) % 2 == 1 { g != 0 } else { true }
+}
+
+pub fn all_held(d: Desk) -> bool
+    requires { ⌜ d .size ≤ siteLimit ⌝ }
+    ensures { λ r. ⌜ r ≡ allHeld d ⌝ }
+{
+    for i in 0..d.size {
+        let g = d.held[i as usize];
+        if !outside_or_held(d.members, i, g) {
+            return false;
+        }
+    }
+    true
+}
+
+pub fn enter(d: Desk) -> Desk
+    ensures { λ r. ⌜ r ≡ entered d ⌝ }
+{
+    let s = d.site;
+    let site = Site {
+        mode: Mode::Inside,
+        clock: s.clock,
+    };
+    let mut e = d;
+    e.site = site;
+    e.inquired = [0; Rig::SITES];
+    e
+}
+
+// A remembered inquire's number q once number n is held: one of another number is forgotten.
+fn kept_inquire(q: u64, n: u64) -> u64
+    ensures { λ r. ⌜ r ≡ cond (eqb q n) n 0 ⌝ }
+{
+    if q == n { n } else { 0 }
+}
+
+pub fn take(d: Desk, j: u64, n: u64) -> Desk
+    requires { ⌜ Listed j ⌝ }
+    ensures { λ r. ⌜ r ≡ taken d j n ⌝ }
+{
+    let i = (j - 1) as usize;
+    let q = kept_inquire(d.inquired[i], n);
+    let mut e = d;
+    e.held[i] = n;
+    e.inquired[i] = q;
+    e
+}
+
+pub fn remember(d: Desk, j: u64, n: u64) -> Desk
+    requires { ⌜ Listed j ⌝ }
+    ensures { λ r. ⌜ r ≡ remembered d j n ⌝ }
+{
+    let i = (j - 1) as usize;
+    let mut e = d;
+    e.inquired[i] = n;
+    e
+}
+
+pub fn must_yield(d: Desk, j: u64) -> bool
+    requires { ⌜ Listed j ⌝ }
+    ensures { λ r. ⌜ r ≡ mustYield d j ⌝ }
+{
+    if !has(d.members, j) {
+        return false;
+    }
+    let i = (j - 1) as usize;
+    let g = d.held[i];
+    if g == 0 {
+        return false;
+    }
+    let q = d.inquired[i];
+    q != 0
+}

@@ -1,0 +1,2 @@
+-- Laws of what is done on a desk.
+pub mod Does

@@ -1,0 +1,47 @@
+-- `on_fail`: whether the site waits.
+use mathlib.Core.Path.{refl, sym, _∙_}
+use borrow.Author.Tests.{not-true, not-false}
+use borrow.Author.Needs.{needs}
+use Rattle.model.specs.Site.{failedSet, onFail}
+use Rattle.site.proofs.Does.{did-only}
+use Rattle.site.proofs.on_fail.Statement.{statement}
+use Rattle.site.proofs.on_fail.Tie as tie
+use Rattle.site.proofs.on_fail.Reads as reads
+use Rattle.site.proofs.on_fail.Lts as lts
+use Rattle.entries.proofs.failed_set.Reads as failed-set-reads
+use Rattle.entries.proofs.is_waiting.Reads as is-waiting-reads
+use Rattle.site.proofs.yield_members.Reads as yield-members-reads
+
+is-waiting-requires : tie.Need-is-waiting-requires
+is-waiting-requires c κs = search needs
+
+returns : tie.Need-returns
+unfolding onFail
+returns c = rw (sym (c .before .is-waiting .ensures) ∙ not-true _ (c .if1 .taken)) (did-only _ _ refl)
+
+failed-set-requires : tie.Need-failed-set-requires
+failed-set-requires c κs = search needs
+
+yield-members-requires : tie.Need-yield-members-requires
+unfolding failedSet
+yield-members-requires c κs =
+    let pre = c .before .before .before .before .before .pre in
+    record { size = rw (c .before .failed-set .ensures) (pre .size); room = pre .room }
+
+same-length : tie.Need-same-length
+same-length c = search needs
+
+returns-2 : tie.Need-returns-2
+unfolding onFail failedSet
+returns-2 c = rw (sym (c .before .before .before .before .before .is-waiting .ensures) ∙ not-false _ (c .before .before .before .before .if1 .left)) (rw (c .before .before .before .failed-set .ensures) at (c .before .yield-members .ensures))
+
+pub on-fail-spec : {M : Type 1} → statement M
+on-fail-spec =
+    tie.close
+    (tie.spec
+    is-waiting-requires
+    returns
+    failed-set-requires
+    yield-members-requires
+    same-length
+    returns-2)

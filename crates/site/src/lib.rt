@@ -1,0 +1,194 @@
+// What a site does with a reply, an inquire, a fail or a transfer.
+use mail::Acted;
+use mail::Row;
+use rig::Desk;
+use rig::Message;
+ghost use mathlib.Core.Path.{_≡_};
+ghost use Prim.Native.Nat.{_<_, _≤_, _+_};
+ghost use lib.ListN.{length};
+ghost use Rattle.rig.specs.Limits.{siteLimit};
+ghost use Rattle.model.specs.Site.{yielded, enteredOrYielded, onReply, yieldedOrRemembered, onInquire, yieldedIf, yieldedUpTo, onFail, onTransfer};
+ghost use Rattle.mail.specs.Did.{Did};
+ghost use Rattle.entries.specs.Asks.{Listed};
+ghost use Rattle.site.specs.Asks.{Room};
+
+fn yield_member(d: Desk, j: u64, out: &mut [Row], count: usize) -> Acted
+    requires { ⌜ Listed j × (count < length (now out)) ⌝ }
+    ensures { λ r. ⌜ Did (yielded d j) count (now (out .entry)) (now (out .exit)) r ⌝ }
+{
+    let i = (j - 1) as usize;
+    let g = d.held[i];
+    let n = mail::append(out, count, Message::yielding(d.number, j, g));
+    let mut e = entries::failed_set(d);
+    e.held[i] = 0;
+    e.heir[i] = 0;
+    e.inquired[i] = 0;
+    Acted { desk: e, count: n }
+}
+
+fn enter_or_yield(d: Desk, j: u64, out: &mut [Row], count: usize) -> Acted
+    requires { ⌜ Listed j × Room d 1 count (now out) ⌝ }
+    ensures { λ r. ⌜ Did (enteredOrYielded d j) count (now (out .entry)) (now (out .exit)) r ⌝ }
+{
+    if entries::all_held(d) {
+        return Acted {
+            desk: entries::enter(d),
+            count: count,
+        };
+    }
+    let s = d.site;
+    if !entries::has_failed(s) {
+        return Acted {
+            desk: d,
+            count: count,
+        };
+    }
+    let i = (j - 1) as usize;
+    let q = d.inquired[i];
+    if q == 0 {
+        return Acted {
+            desk: d,
+            count: count,
+        };
+    }
+    yield_member(d, j, out, count)
+}
+
+// An inner call: a reply about j, with number n.
+pub fn on_reply(d: Desk, j: u64, n: u64, out: &mut [Row], count: usize) -> Acted
+    requires { ⌜ Listed j × Room d 1 count (now out) ⌝ }
+    ensures { λ r. ⌜ Did (onReply d j n) count (now (out .entry)) (now (out .exit)) r ⌝ }
+{
+    let s = d.site;
+    if !entries::is_waiting(s) {
+        return Acted {
+            desk: d,
+            count: count,
+        };
+    }
+    if !entries::has(d.members, j) {
+        return Acted {
+            desk: d,
+            count: count,
+        };
+    }
+    let i = (j - 1) as usize;
+    let g = d.held[i];
+    if g != 0 {
+        return Acted {
+            desk: d,
+            count: count,
+        };
+    }
+    enter_or_yield(entries::take(d, j, n), j, out, count)
+}
+
+fn yield_or_remember(d: Desk, j: u64, n: u64, out: &mut [Row], count: usize) -> Acted
+    requires { ⌜ Listed j × (count < length (now out)) ⌝ }
+    ensures { λ r. ⌜ Did (yieldedOrRemembered d j n) count (now (out .entry)) (now (out .exit)) r ⌝ }
+{
+    let i = (j - 1) as usize;
+    let g = d.held[i];
+    if g == 0 {
+        let e = entries::remember(d, j, n);
+        return Acted {
+            desk: e,
+            count: count,
+        };
+    }
+    if n != g {
+        return Acted {
+            desk: d,
+            count: count,
+        };
+    }
+    let s = d.site;
+    if entries::has_failed(s) {
+        return yield_member(d, j, out, count);
+    }
+    Acted {
+        desk: entries::remember(d, j, n),
+        count: count,
+    }
+}
+
+// An inner call: an inquire from j, with number n.
+pub fn on_inquire(d: Desk, j: u64, n: u64, out: &mut [Row], count: usize) -> Acted
+    requires { ⌜ Listed j × (count < length (now out)) ⌝ }
+    ensures { λ r. ⌜ Did (onInquire d j n) count (now (out .entry)) (now (out .exit)) r ⌝ }
+{
+    let s = d.site;
+    if !entries::is_waiting(s) {
+        return Acted {
+            desk: d,
+            count: count,
+        };
+    }
+    yield_or_remember(d, j, n, out, count)
+}
+
+// One turn of `yield_members`.
+fn yield_if(d: Desk, j: u64, out: &mut [Row], count: usize) -> Acted
+    requires { ⌜ Listed j × (count < length (now out)) ⌝ }
+    ensures { λ r. ⌜ Did (yieldedIf d j) count (now (out .entry)) (now (out .exit)) r ⌝ }
+{
+    if entries::must_yield(d, j) {
+        return yield_member(d, j, out, count);
+    }
+    Acted {
+        desk: d,
+        count: count,
+    }
+}
+
+fn yield_members(d: Desk, out: &mut [Row], count: usize) -> Acted
+    requires { ⌜ Room d 31 count (now out) ⌝ }
+    ensures { λ r. ⌜ Did (yieldedUpTo d (d .size)) count (now (out .entry)) (now (out .exit)) r ⌝ }
+{
+    let mut a = Acted {
+        desk: d,
+        count: count,
+    };
+    for i in 0..d.size {
+        let e = a.desk;
+        let b = yield_if(e, i + 1, out, a.count);
+        a = b;
+    }
+    a
+}
+
+// An inner call: a fail.
+pub fn on_fail(d: Desk, out: &mut [Row], count: usize) -> Acted
+    requires { ⌜ Room d 31 count (now out) ⌝ }
+    ensures { λ r. ⌜ Did (onFail d) count (now (out .entry)) (now (out .exit)) r ⌝ }
+{
+    let s = d.site;
+    if !entries::is_waiting(s) {
+        return Acted {
+            desk: d,
+            count: count,
+        };
+    }
+    yield_members(entries::failed_set(d), out, count)
+}
+
+// An inner call: a transfer from j that names x, with number n.
+pub fn on_transfer(d: Desk, j: u64, x: u64, n: u64, out: &mut [Row], count: usize) -> Acted
+    requires { ⌜ Listed j ⌝ }
+    ensures { λ r. ⌜ Did (onTransfer d j x n) count (now (out .entry)) (now (out .exit)) r ⌝ }
+{
+    let i = (j - 1) as usize;
+    let g = d.held[i];
+    if n == g {
+        let mut e = d;
+        e.heir[i] = x;
+        return Acted {
+            desk: e,
+            count: count,
+        };
+    }
+    Acted {
+        desk: d,
+        count: count,
+    }
+}
