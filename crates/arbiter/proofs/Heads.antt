@@ -4,11 +4,10 @@ use mathlib.Core.Path.{_≡_}
 use mathlib.Core.List.{List}
 use native.Mathlib.Omega.{arith}
 use lib.Dec.{eqb}
-use Rattle.rig.specs.Limits.{siteLimit}
+use Rattle.rig.specs.Limits.{siteLimit, Listed}
 use Rattle.model.specs.Tables.{at}
 use Rattle.model.specs.Priority.{comesBefore, queuedKey, headWith, head}
 use Rattle.basics.proofs.Basics.{by-bool}
-use Rattle.arbiter.specs.Asks.{Listed}
 
 -- one site more
 head-with-within : (row : List ℕ) (k h : ℕ) → h ≤ k → headWith row k h ≤ k

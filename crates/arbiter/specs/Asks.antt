@@ -10,8 +10,3 @@ pub record Room (d : Desk) (g m n : ℕ) (rows : List (List ℕ)) : Type 0 where
   pub size : d .size ≤ siteLimit
   pub grants : d .arbiter .grant + g < 2 ^ 64
   pub room : n + m ≤ length rows
-
--- k may be a site
-pub record Listed (k : ℕ) : Type 0 where
-  pub low : 1 ≤ k
-  pub high : k ≤ siteLimit

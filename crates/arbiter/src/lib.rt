@@ -11,13 +11,13 @@ ghost use mathlib.Core.Path.{_≡_};
 ghost use mathlib.Core.List.{[], _∷_};
 ghost use Prim.Native.Nat.{_+_, _^_, _≤_, _<_};
 ghost use lib.ListN.{length};
-ghost use Rattle.rig.specs.Limits.{siteLimit};
+ghost use Rattle.rig.specs.Limits.{siteLimit, Listed};
 ghost use Rattle.rig.specs.Messages.{inquire, transfer};
 ghost use Rattle.model.specs.Tables.{at};
 ghost use Rattle.model.specs.Priority.{key, comesBefore, queuedKey, headWith, head};
 ghost use Rattle.model.specs.Arbiter.{heldBy, withQueued, nextHeir, granted, grantedHead, clockRaised, failFormer, inquireOrFail, answers, queuedUp, onRequest, headNamed, heirTakesOver, holderReleases, fromHolder, isEarly, earlyRelease, onRelease, onYield};
 ghost use Rattle.mail.specs.Did.{Did};
-ghost use Rattle.arbiter.specs.Asks.{Room, Listed};
+ghost use Rattle.arbiter.specs.Asks.{Room};
 ghost use Rattle.arbiter.specs.Sent.{Sent};
 
 // Whether the first of two asks comes before the other.

@@ -7,11 +7,10 @@ ghost use mathlib.Core.Path.{_≡_};
 ghost use mathlib.Core.Bool.{not, _||_, cond};
 ghost use Prim.Native.Nat.{suc, _<_, _≤_};
 ghost use lib.Dec.{eqb};
-ghost use Rattle.rig.specs.Limits.{siteLimit};
+ghost use Rattle.rig.specs.Limits.{siteLimit, Listed};
 ghost use Rattle.model.specs.Sets.{member};
 ghost use Rattle.model.specs.State.{isWaiting, seqIn, failedIn};
 ghost use Rattle.model.specs.Site.{failedSet, allHeld, entered, taken, remembered, mustYield};
-ghost use Rattle.entries.specs.Asks.{Listed};
 
 pub fn is_waiting(s: Site) -> bool
     ensures { λ r. ⌜ r ≡ isWaiting (s .mode) ⌝ }

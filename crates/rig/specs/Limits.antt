@@ -1,11 +1,16 @@
 -- Document 01, "Sizes of a rig".
-use Prim.Native.Nat.{ℕ}
+use Prim.Native.Nat.{ℕ, _≤_}
 use mathlib.Core.List.{List}
 use lib.ListN.{replicate}
 
 -- "Sites 1 to N, N from 1 to 31."
 abbrev pub siteLimit : ℕ
 siteLimit = 31
+
+-- a number that may be a site's
+pub record Listed (k : ℕ) : Type 0 where
+  pub low : 1 ≤ k
+  pub high : k ≤ siteLimit
 
 -- "Messages under way: at most 1,024."
 abbrev pub messageLimit : ℕ

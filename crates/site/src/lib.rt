@@ -9,7 +9,7 @@ ghost use lib.ListN.{length};
 ghost use Rattle.rig.specs.Limits.{siteLimit};
 ghost use Rattle.model.specs.Site.{yielded, enteredOrYielded, onReply, yieldedOrRemembered, onInquire, yieldedIf, yieldedUpTo, onFail, onTransfer};
 ghost use Rattle.mail.specs.Did.{Did};
-ghost use Rattle.entries.specs.Asks.{Listed};
+ghost use Rattle.rig.specs.Limits.{Listed};
 ghost use Rattle.site.specs.Asks.{Room};
 
 fn yield_member(d: Desk, j: u64, out: &mut [Row], count: usize) -> Acted
