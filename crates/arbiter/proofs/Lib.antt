@@ -1,3 +1,0 @@
--- Laws that several proofs of this crate cite.
-pub mod Heads
-pub mod Sending

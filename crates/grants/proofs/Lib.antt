@@ -1,0 +1,2 @@
+-- Messages sent one after another.
+pub mod Sending

@@ -1,0 +1,45 @@
+-- Messages sent one after the other.
+use Prim.Native.Nat.{ℕ, _+_, _≤_}
+use mathlib.Core.Path.{_≡_, refl, sym, _∙_}
+use mathlib.Core.Bool.{not, _&&_}
+use mathlib.Core.List.{List, [], _∷_, _++_, map, append-assoc, append-nil, map-append}
+use native.Mathlib.Omega.{arith}
+use lib.Dec.{eqb}
+use lib.ListN.{length, take, length-append}
+use Rattle.rig.specs.declared.Desk.{Desk}
+use Rattle.rig.specs.declared.Message.{Message}
+use Rattle.model.specs.Priority.{comesBefore}
+use Rattle.model.specs.Desk.{effect}
+use Rattle.model.specs.Arbiter.{siteKey, holderKey, failFormer}
+use Rattle.basics.proofs.Basics.{by-bool}
+use Rattle.mail.specs.Rows.{rowOf}
+use Rattle.mail.specs.Did.{Did}
+use Rattle.grants.specs.Sent.{Sent}
+
+-- none
+pub sent-none : {n : ℕ} {rows : List (List ℕ)} → Sent [] n rows rows n
+sent-none = record { count = omega arith; sent = sym (append-nil _) }
+
+module _ {n r : ℕ} {rows after : List (List ℕ)} where
+  -- one: what `append` promises
+  pub sent-one : {m a : Message} → a ≡ m → (r ≡ n + 1) × (take r after ≡ take n rows ++ (rowOf a ∷ [])) → Sent (m ∷ []) n rows after r
+  sent-one e p = record { count = p .0; sent = rw e at (p .1) }
+
+  -- some, then more
+  pub sent-more : {ms ns : List Message} {mid : List (List ℕ)} {k : ℕ} → Sent ms n rows mid k → Sent ns k mid after r → Sent (ms ++ ns) n rows after r
+  sent-more a b = record {
+    count = simp length-append (omega arith);
+    sent = b .sent ∙ rw (a .sent, map-append, append-assoc);
+  }
+
+  -- with the desk
+  pub did-sent : {d : Desk} {ms : List Message} → Sent ms n rows after r → Did (effect d ms) n rows after (record { desk = d; count = r })
+  did-sent s = record { desk = refl; count = s .count; sent = s .sent }
+
+-- at most one message goes to the former head
+pub fail-former-most : (d : Desk) (k former : ℕ) → length (failFormer d k former) ≤ 1
+unfolding failFormer
+fail-former-most d k former =
+    by-bool (not (eqb former 0) && (not (eqb former k) && comesBefore (siteKey d former) (holderKey d)))
+    (λ e. rw e (omega arith))
+    (λ e. rw e (omega arith))

@@ -1,0 +1,2 @@
+-- What a head is.
+pub mod Heads
