@@ -2,3 +2,4 @@
 pub mod Gap
 pub mod Clear
 pub mod Places
+pub mod Rows

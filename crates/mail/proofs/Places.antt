@@ -1,8 +1,7 @@
 -- What a search finds is the message that the model finds, and what is left without its row is what the model leaves.
 use Prim.Native.Nat.{ℕ, suc, _+_, _-_, _≤_, _<_}
-use mathlib.Core.Path.{_≡_, refl, sym, ap, _∙_}
-use mathlib.Core.Bool.{Bool, true, false}
-use mathlib.Core.List.{List, [], _∷_, _++_, map}
+use mathlib.Core.Path.{_≡_, refl, ap, _∙_}
+use mathlib.Core.List.{List, [], _∷_, map}
 use mathlib.Core.Option.{none, some}
 use native.Mathlib.Omega.{arith}
 use lib.ListN.{length, getD, take, drop, length-take, length-drop, length-append}
@@ -12,7 +11,6 @@ use Rattle.basics.proofs.Basics.{by-bool}
 use Rattle.model.specs.Deliver.{between}
 use Rattle.mail.specs.Rows.{messageOf}
 use Rattle.mail.specs.Places.{foundFrom, foundIn, without, zeroRow, takenOut}
-use Rattle.mail.specs.declared.Found.{Found}
 use Rattle.mail.specs.declared.Found.the-variants.{At, Nowhere}
 
 module _ (a b : ℕ) where

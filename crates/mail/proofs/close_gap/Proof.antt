@@ -1,6 +1,6 @@
 -- `close_gap`: after k turns, k rows stand one place forward.
-use Prim.Native.Nat.{ℕ, _≤_, _<_, _+_, _-_, suc}
-use mathlib.Core.Path.{_≡_, refl, sym, _∙_, ap}
+use Prim.Native.Nat.{ℕ, _≤_, _+_, _-_, suc}
+use mathlib.Core.Path.{_≡_, refl}
 use mathlib.Core.List.{[]}
 use native.Mathlib.Omega.{arith}
 use lib.ListN.{length, length-set, drop}
