@@ -13,6 +13,12 @@ use Rattle.mail.specs.Rows.{messageOf}
 use Rattle.mail.specs.Places.{foundFrom, foundIn, without, zeroRow, takenOut}
 use Rattle.mail.specs.declared.Found.the-variants.{At, Nowhere}
 
+-- after one of the first n is taken off, the first n - 1 rows are the others
+pub taken-out-rest : (n place : ℕ) (rows : List (List ℕ)) → place < n → n ≤ length rows → take (n - 1) (takenOut n place rows) ≡ without place (take n rows)
+taken-out-rest n place rows g h =
+    let w : length (without place (take n rows)) ≡ n - 1 = simp (length-append, length-take, length-drop) (omega arith) in
+    take-at (without place (take n rows)) (zeroRow ∷ drop n rows) (n - 1) w
+
 module _ (a b : ℕ) where
   -- nothing is found: the model finds nothing, and the other way round
   nowhere-none : (k : ℕ) (rows : List (List ℕ)) → foundFrom k a b rows ≡ Nowhere → first (between a b) (map messageOf rows) ≡ none
@@ -31,12 +37,17 @@ module _ (a b : ℕ) where
       (λ e. let g : some (messageOf r) ≡ none = rw e at h in let z : _≡_ {A = ℕ} 0 1 = cc in absurd (omega arith))
       (λ e. rw e (none-nowhere (suc k) rs (rw e at h)))
 
-  pub found-nowhere : (rows : List (List ℕ)) → (foundIn a b rows ≡ Nowhere → first (between a b) (map messageOf rows) ≡ none) × (first (between a b) (map messageOf rows) ≡ none → foundIn a b rows ≡ Nowhere)
+  pub found-nowhere : (rows : List (List ℕ))
+      → (foundIn a b rows ≡ Nowhere → first (between a b) (map messageOf rows) ≡ none)
+      × (first (between a b) (map messageOf rows) ≡ none → foundIn a b rows ≡ Nowhere)
   found-nowhere rows = (nowhere-none 0 rows, none-nowhere 0 rows)
 
   -- a place is found: it is the place of the model's message, and the list without that row is the model's
   abbrev Stands : List (List ℕ) → ℕ → Type 0
-  Stands rows j = (j < length rows) × (first (between a b) (map messageOf rows) ≡ some (messageOf (getD rows j []))) × (map messageOf (without j rows) ≡ withoutFirst (between a b) (map messageOf rows))
+  Stands rows j =
+      (j < length rows)
+      × (first (between a b) (map messageOf rows) ≡ some (messageOf (getD rows j [])))
+      × (map messageOf (without j rows) ≡ withoutFirst (between a b) (map messageOf rows))
 
   stands : (k : ℕ) (rows : List (List ℕ)) (i : ℕ) → foundFrom k a b rows ≡ At i → (j : ℕ) × (i ≡ k + j) × Stands rows j
   unfolding first withoutFirst
@@ -67,5 +78,4 @@ module _ (a b : ℕ) where
   found-taken-off n rows i h f =
       let s = found-stands (take n rows) i h in
       let l = length-take n rows in
-      let w : length (without i (take n rows)) ≡ n - 1 = simp (length-append, length-take, length-drop) (omega arith) in
-      ap (λ (r : List (List ℕ)). map messageOf r) (take-at (without i (take n rows)) (zeroRow ∷ drop n rows) (n - 1) w) ∙ s .2
+      ap (λ (r : List (List ℕ)). map messageOf r) (taken-out-rest n i rows (omega arith) f) ∙ s .2

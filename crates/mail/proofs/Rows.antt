@@ -2,7 +2,6 @@
 use Prim.Native.Nat.{ℕ, zero, suc, _-_, _≤_}
 use mathlib.Core.Path.{_≡_, refl, ap, _∙_}
 use mathlib.Core.List.{List, [], _∷_, _++_, map, map-append}
-use native.Mathlib.Omega.{arith}
 use lib.ListN.{length, take, replicate, length-map}
 use lib.Seq.{length-take-le}
 use Rattle.rig.specs.declared.Message.{Message}
