@@ -1,0 +1,32 @@
+-- Where a message stands in a list of rows, and the list with rows taken off or cleared.
+use Prim.Native.Nat.{ℕ, suc, _-_}
+use mathlib.Core.Bool.{cond}
+use mathlib.Core.List.{List, [], _∷_, _++_}
+use lib.ListN.{length, take, drop, replicate}
+use Rattle.model.specs.Deliver.{between}
+use Rattle.mail.specs.Rows.{messageOf}
+use Rattle.mail.specs.declared.Found.{Found}
+use Rattle.mail.specs.declared.Found.the-variants.{At, Nowhere}
+
+-- the place of the first row from a to b, where the first row has place k
+abbrev pub foundFrom : ℕ → ℕ → ℕ → List (List ℕ) → Found
+foundFrom k a b [] = Nowhere
+foundFrom k a b (r ∷ rs) = cond (between a b (messageOf r)) (At k) (foundFrom (suc k) a b rs)
+
+abbrev pub foundIn : ℕ → ℕ → List (List ℕ) → Found
+foundIn a b rows = foundFrom 0 a b rows
+
+-- a list without its row at a place
+abbrev pub without : ℕ → List (List ℕ) → List (List ℕ)
+without place rows = take place rows ++ drop (suc place) rows
+
+abbrev pub zeroRow : List ℕ
+zeroRow = 0 ∷ 0 ∷ 0 ∷ 0 ∷ 0 ∷ []
+
+-- one of the first n rows is gone, and a blank row follows the others
+abbrev pub takenOut : ℕ → ℕ → List (List ℕ) → List (List ℕ)
+takenOut n place rows = without place (take n rows) ++ (zeroRow ∷ drop n rows)
+
+-- all rows are blank from a place on
+abbrev pub cleared : ℕ → List (List ℕ) → List (List ℕ)
+cleared from rows = take from rows ++ replicate (length rows - from) zeroRow
