@@ -12,6 +12,7 @@ ghost use Rattle.model.specs.Sets.{member};
 ghost use Rattle.model.specs.State.{isWaiting, seqIn, failedIn};
 ghost use Rattle.model.specs.Site.{failedSet, allHeld, entered, taken, remembered, mustYield};
 
+// Whether the site waits.
 pub fn is_waiting(s: Site) -> bool
     ensures { λ r. ⌜ r ≡ isWaiting (s .mode) ⌝ }
 {
@@ -23,6 +24,7 @@ pub fn is_waiting(s: Site) -> bool
     }
 }
 
+// The sequence number of its ask; 0 where it does not wait.
 fn seq_in(s: Site) -> u64
     ensures { λ r. ⌜ r ≡ seqIn (s .mode) ⌝ }
 {
@@ -34,6 +36,7 @@ fn seq_in(s: Site) -> u64
     }
 }
 
+// Its failed mark; false where it does not wait.
 pub fn has_failed(s: Site) -> bool
     ensures { λ r. ⌜ r ≡ failedIn (s .mode) ⌝ }
 {
@@ -45,6 +48,7 @@ pub fn has_failed(s: Site) -> bool
     }
 }
 
+// Whether site j is in the set.
 pub fn has(set: u64, j: u64) -> bool
     requires { ⌜ Listed j ⌝ }
     ensures { λ r. ⌜ r ≡ member set j ⌝ }
@@ -52,6 +56,7 @@ pub fn has(set: u64, j: u64) -> bool
     (set >> (j - 1)) % 2 == 1
 }
 
+// The failed mark is set.
 pub fn failed_set(d: Desk) -> Desk
     ensures { λ r. ⌜ r ≡ failedSet d ⌝ }
 {
@@ -76,6 +81,7 @@ fn outside_or_held(set: u64, i: u64, g: u64) -> bool
     if (set >> i) % 2 == 1 { g != 0 } else { true }
 }
 
+// All members are held.
 pub fn all_held(d: Desk) -> bool
     requires { ⌜ d .size ≤ siteLimit ⌝ }
     ensures { λ r. ⌜ r ≡ allHeld d ⌝ }
@@ -89,6 +95,7 @@ pub fn all_held(d: Desk) -> bool
     true
 }
 
+// The site is inside; its remembered inquires are cleared.
 pub fn enter(d: Desk) -> Desk
     ensures { λ r. ⌜ r ≡ entered d ⌝ }
 {
@@ -110,6 +117,7 @@ fn kept_inquire(q: u64, n: u64) -> u64
     if q == n { n } else { 0 }
 }
 
+// Number n is held for j.
 pub fn take(d: Desk, j: u64, n: u64) -> Desk
     requires { ⌜ Listed j ⌝ }
     ensures { λ r. ⌜ r ≡ taken d j n ⌝ }
@@ -122,6 +130,7 @@ pub fn take(d: Desk, j: u64, n: u64) -> Desk
     e
 }
 
+// An inquire from j with number n is remembered.
 pub fn remember(d: Desk, j: u64, n: u64) -> Desk
     requires { ⌜ Listed j ⌝ }
     ensures { λ r. ⌜ r ≡ remembered d j n ⌝ }
@@ -132,6 +141,7 @@ pub fn remember(d: Desk, j: u64, n: u64) -> Desk
     e
 }
 
+// Member j is held, with a remembered inquire.
 pub fn must_yield(d: Desk, j: u64) -> bool
     requires { ⌜ Listed j ⌝ }
     ensures { λ r. ⌜ r ≡ mustYield d j ⌝ }

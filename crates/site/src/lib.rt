@@ -3,15 +3,14 @@ use mail::Acted;
 use mail::Row;
 use rig::Desk;
 use rig::Message;
-ghost use mathlib.Core.Path.{_≡_};
-ghost use Prim.Native.Nat.{_<_, _≤_, _+_};
+ghost use Prim.Native.Nat.{_<_};
 ghost use lib.ListN.{length};
-ghost use Rattle.rig.specs.Limits.{siteLimit};
 ghost use Rattle.model.specs.Site.{yielded, enteredOrYielded, onReply, yieldedOrRemembered, onInquire, yieldedIf, yieldedUpTo, onFail, onTransfer};
 ghost use Rattle.mail.specs.Did.{Did};
 ghost use Rattle.rig.specs.Limits.{Listed};
 ghost use Rattle.site.specs.Asks.{Room};
 
+// The site yields arbiter j.
 fn yield_member(d: Desk, j: u64, out: &mut [Row], count: usize) -> Acted
     requires { ⌜ Listed j × (count < length (now out)) ⌝ }
     ensures { λ r. ⌜ Did (yielded d j) count (now (out .entry)) (now (out .exit)) r ⌝ }
@@ -26,6 +25,7 @@ fn yield_member(d: Desk, j: u64, out: &mut [Row], count: usize) -> Acted
     Acted { desk: e, count: n }
 }
 
+// What follows once a number is held for j: the site is inside, or yields j, or waits on.
 fn enter_or_yield(d: Desk, j: u64, out: &mut [Row], count: usize) -> Acted
     requires { ⌜ Listed j × Room d 1 count (now out) ⌝ }
     ensures { λ r. ⌜ Did (enteredOrYielded d j) count (now (out .entry)) (now (out .exit)) r ⌝ }
@@ -83,6 +83,7 @@ pub fn on_reply(d: Desk, j: u64, n: u64, out: &mut [Row], count: usize) -> Acted
     enter_or_yield(entries::take(d, j, n), j, out, count)
 }
 
+// What a waiting site does with an inquire from j, with number n.
 fn yield_or_remember(d: Desk, j: u64, n: u64, out: &mut [Row], count: usize) -> Acted
     requires { ⌜ Listed j × (count < length (now out)) ⌝ }
     ensures { λ r. ⌜ Did (yieldedOrRemembered d j n) count (now (out .entry)) (now (out .exit)) r ⌝ }
@@ -127,7 +128,7 @@ pub fn on_inquire(d: Desk, j: u64, n: u64, out: &mut [Row], count: usize) -> Act
     yield_or_remember(d, j, n, out, count)
 }
 
-// One turn of `yield_members`.
+// One turn of `yield_members`: j is yielded, if it is held with a remembered inquire.
 fn yield_if(d: Desk, j: u64, out: &mut [Row], count: usize) -> Acted
     requires { ⌜ Listed j × (count < length (now out)) ⌝ }
     ensures { λ r. ⌜ Did (yieldedIf d j) count (now (out .entry)) (now (out .exit)) r ⌝ }
@@ -141,6 +142,7 @@ fn yield_if(d: Desk, j: u64, out: &mut [Row], count: usize) -> Acted
     }
 }
 
+// Every held member with a remembered inquire is yielded, ascending.
 fn yield_members(d: Desk, out: &mut [Row], count: usize) -> Acted
     requires { ⌜ Room d 31 count (now out) ⌝ }
     ensures { λ r. ⌜ Did (yieldedUpTo d (d .size)) count (now (out .entry)) (now (out .exit)) r ⌝ }
