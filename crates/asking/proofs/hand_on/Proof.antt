@@ -5,8 +5,6 @@ use Rattle.model.specs.Leave.{handOn}
 use Rattle.asking.proofs.Sends.{sent-one, sent-then}
 use Rattle.asking.proofs.hand_on.Statement.{statement}
 use Rattle.asking.proofs.hand_on.Tie as tie
-use Rattle.asking.proofs.hand_on.Reads as reads
-use Rattle.asking.proofs.hand_on.Lts as lts
 use Rattle.mail.proofs.append.Reads as append-reads
 use Rattle.rig.proofs.Message.release.Reads as release-reads
 use Rattle.rig.proofs.Message.reply.Reads as reply-reads

@@ -6,8 +6,6 @@ use Rattle.model.specs.Sets.{member}
 use Rattle.asking.proofs.Sends.{sent-none}
 use Rattle.asking.proofs.hand_on_member.Statement.{statement}
 use Rattle.asking.proofs.hand_on_member.Tie as tie
-use Rattle.asking.proofs.hand_on_member.Reads as reads
-use Rattle.asking.proofs.hand_on_member.Lts as lts
 use Rattle.asking.proofs.hand_on.Reads as hand-on-reads
 
 shr-if1 : tie.Need-shr-if1

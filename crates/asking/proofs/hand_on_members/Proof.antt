@@ -12,8 +12,6 @@ use Rattle.asking.specs.Sent.{Sent}
 use Rattle.asking.proofs.Sends.{sent-none, sent-then, handOns-short}
 use Rattle.asking.proofs.hand_on_members.Statement.{statement}
 use Rattle.asking.proofs.hand_on_members.Tie as tie
-use Rattle.asking.proofs.hand_on_members.Reads as reads
-use Rattle.asking.proofs.hand_on_members.Lts as lts
 use Rattle.asking.proofs.hand_on_member.Reads as hand-on-member-reads
 
 abbrev Inv-loop : tie.InvT-loop

@@ -6,8 +6,6 @@ use Rattle.model.specs.Sets.{member}
 use Rattle.asking.proofs.Sends.{sent-none, sent-one}
 use Rattle.asking.proofs.request_member.Statement.{statement}
 use Rattle.asking.proofs.request_member.Tie as tie
-use Rattle.asking.proofs.request_member.Reads as reads
-use Rattle.asking.proofs.request_member.Lts as lts
 use Rattle.mail.proofs.append.Reads as append-reads
 use Rattle.rig.proofs.Message.request.Reads as request-reads
 

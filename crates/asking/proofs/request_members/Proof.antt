@@ -11,8 +11,6 @@ use Rattle.asking.specs.Sent.{Sent}
 use Rattle.asking.proofs.Sends.{sent-none, sent-then, requests-short}
 use Rattle.asking.proofs.request_members.Statement.{statement}
 use Rattle.asking.proofs.request_members.Tie as tie
-use Rattle.asking.proofs.request_members.Reads as reads
-use Rattle.asking.proofs.request_members.Lts as lts
 use Rattle.asking.proofs.request_member.Reads as request-member-reads
 
 abbrev Inv-loop : tie.InvT-loop

@@ -3,8 +3,6 @@ use mathlib.Core.Path.{refl}
 use Rattle.model.specs.Site.{entered}
 use Rattle.entries.proofs.enter.Statement.{statement}
 use Rattle.entries.proofs.enter.Tie as tie
-use Rattle.entries.proofs.enter.Reads as reads
-use Rattle.entries.proofs.enter.Lts as lts
 
 returns : tie.Need-returns
 unfolding entered

@@ -7,8 +7,6 @@ use borrow.Author.Needs.{needs}
 use Rattle.model.specs.Sets.{member}
 use Rattle.entries.proofs.has.Statement.{statement}
 use Rattle.entries.proofs.has.Tie as tie
-use Rattle.entries.proofs.has.Reads as reads
-use Rattle.entries.proofs.has.Lts as lts
 
 -- site j's bit of a set
 member-bit : (s j : ℕ) → 1 ≤ j → member s j ≡ eqb (s / 2 ^ (j - 1) % 2) 1

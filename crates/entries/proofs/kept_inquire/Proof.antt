@@ -2,8 +2,6 @@
 use borrow.Author.Tests.{eq-eqb, ne-eqb}
 use Rattle.entries.proofs.kept_inquire.Statement.{statement}
 use Rattle.entries.proofs.kept_inquire.Tie as tie
-use Rattle.entries.proofs.kept_inquire.Reads as reads
-use Rattle.entries.proofs.kept_inquire.Lts as lts
 
 returns : tie.Need-returns
 returns c = rw (eq-eqb _ _ (c .if1 .taken))

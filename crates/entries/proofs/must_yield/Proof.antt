@@ -6,8 +6,6 @@ use Rattle.model.proofs.Tables.{at-read}
 use Rattle.model.specs.Site.{taken, mustYield}
 use Rattle.entries.proofs.must_yield.Statement.{statement}
 use Rattle.entries.proofs.must_yield.Tie as tie
-use Rattle.entries.proofs.must_yield.Reads as reads
-use Rattle.entries.proofs.must_yield.Lts as lts
 use Rattle.entries.proofs.has.Reads as has-reads
 
 has-requires : tie.Need-has-requires

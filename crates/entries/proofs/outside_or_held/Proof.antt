@@ -4,8 +4,6 @@ use borrow.Author.Needs.{needs}
 use Rattle.model.specs.Sets.{member}
 use Rattle.entries.proofs.outside_or_held.Statement.{statement}
 use Rattle.entries.proofs.outside_or_held.Tie as tie
-use Rattle.entries.proofs.outside_or_held.Reads as reads
-use Rattle.entries.proofs.outside_or_held.Lts as lts
 
 shr-if1 : tie.Need-shr-if1
 shr-if1 c = search needs

@@ -4,8 +4,6 @@ use Rattle.model.proofs.Tables.{put-write}
 use Rattle.model.specs.Site.{remembered}
 use Rattle.entries.proofs.remember.Statement.{statement}
 use Rattle.entries.proofs.remember.Tie as tie
-use Rattle.entries.proofs.remember.Reads as reads
-use Rattle.entries.proofs.remember.Lts as lts
 
 sub-i : tie.Need-sub-i
 sub-i c = search needs

@@ -12,8 +12,6 @@ use Rattle.model.specs.Setup.{meetsEarlier, allMeet}
 use Rattle.basics.proofs.Basics.{all-fails, all-more}
 use Rattle.setup.proofs.all_meet.Statement.{statement}
 use Rattle.setup.proofs.all_meet.Tie as tie
-use Rattle.setup.proofs.all_meet.Reads as reads
-use Rattle.setup.proofs.all_meet.Lts as lts
 use Rattle.setup.proofs.meets_earlier.Reads as meets-earlier-reads
 
 abbrev Inv-loop : tie.InvT-loop
@@ -22,16 +20,13 @@ Inv-loop size sets k₀ k = (k ≤ size) × (all (meetsEarlier size sets) k ≡ 
 abbrev μ-loop : tie.MeasureT-loop
 μ-loop size sets k₀ k = size - k
 
--- src/lib.rt:59:5
 loop-holds : tie.Need-loop-holds Inv-loop μ-loop
 unfolding all
 loop-holds c = search needs
 
--- src/lib.rt:60:13
 meets-earlier-requires : tie.Need-meets-earlier-requires Inv-loop μ-loop
 meets-earlier-requires c κs = search needs
 
--- src/lib.rt:61:13
 returns : tie.Need-returns Inv-loop μ-loop
 unfolding allMeet
 returns c =
@@ -39,21 +34,17 @@ returns c =
     let k = c .before .before .before .loop .k in
     sym (all-fails _ n (suc k) (omega arith) (omega arith) (sym (rw add-one at (c .before .meets-earlier .ensures)) ∙ not-true _ (c .if1 .taken)))
 
--- src/lib.rt:59:9
 add-k : tie.Need-add-k Inv-loop μ-loop
 add-k c = search needs
 
--- src/lib.rt:59:5
 loop-less : tie.Need-loop-less Inv-loop μ-loop
 loop-less c = search needs
 
--- src/lib.rt:59:5
 loop-again : tie.Need-loop-again Inv-loop μ-loop
 loop-again c =
     let l = c .before .before .before .loop in
     (omega arith, all-more _ (l .k) (l .inv .1) (sym (rw add-one at (c .before .meets-earlier .ensures)) ∙ not-false _ (c .if1 .left)))
 
--- src/lib.rt:55:1
 returns-2 : tie.Need-returns-2 Inv-loop μ-loop
 unfolding allMeet
 returns-2 c = sym (rw (le-antisymm (c .before .loop .inv .0) (c .loop-test .left)) at (c .before .loop .inv .1))

@@ -13,8 +13,6 @@ use Rattle.model.specs.Setup.{allName}
 use Rattle.basics.proofs.Basics.{all-fails, all-more}
 use Rattle.setup.proofs.all_name.Statement.{statement}
 use Rattle.setup.proofs.all_name.Tie as tie
-use Rattle.setup.proofs.all_name.Reads as reads
-use Rattle.setup.proofs.all_name.Lts as lts
 use Rattle.setup.proofs.names_sites.Reads as names-sites-reads
 
 abbrev Inv-loop : tie.InvT-loop

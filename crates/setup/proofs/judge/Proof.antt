@@ -9,51 +9,41 @@ use Rattle.model.specs.Setup.{sizeListed, setupCode}
 use Rattle.model.proofs.Setup.{size-listed, size-too-large}
 use Rattle.setup.proofs.judge.Statement.{statement}
 use Rattle.setup.proofs.judge.Tie as tie
-use Rattle.setup.proofs.judge.Reads as reads
-use Rattle.setup.proofs.judge.Lts as lts
 use Rattle.setup.proofs.all_meet.Reads as all-meet-reads
 use Rattle.setup.proofs.all_name.Reads as all-name-reads
 
--- src/lib.rt:72:9
 returns : tie.Need-returns
 unfolding setupCode sizeListed
 returns c =
     rw (ne-eqb _ _ (c .if1 .taken))
 
--- src/lib.rt:75:9
 returns-2 : tie.Need-returns-2
 unfolding setupCode sizeListed
 returns-2 c =
     rw (eq-eqb _ _ (c .before .if1 .left), c .if2 .taken)
 
--- src/lib.rt:78:9
 returns-3 : tie.Need-returns-3
 unfolding setupCode
 returns-3 c =
     rw (eq-eqb _ _ (c .before .before .if1 .left), size-too-large _ (c .if3 .taken))
 
--- src/lib.rt:80:9
 all-name-requires : tie.Need-all-name-requires
 all-name-requires c κs = search needs
 
--- src/lib.rt:81:9
 returns-4 : tie.Need-returns-4
 unfolding setupCode
 returns-4 c =
     rw (eq-eqb _ _ (c .before .before .before .before .if1 .left), size-listed (c .before .before .before .before .before .before .args .size) (omega arith) (omega arith), sym (c .before .all-name .ensures) ∙ not-true _ (c .if4 .taken))
 
--- src/lib.rt:83:9
 all-meet-requires : tie.Need-all-meet-requires
 all-meet-requires c κs =
     (omega arith, c .before .before .before .before .if1 .left, sym (c .before .all-name .ensures) ∙ not-false _ (c .if4 .left))
 
--- src/lib.rt:84:9
 returns-5 : tie.Need-returns-5
 unfolding setupCode
 returns-5 c =
     rw (eq-eqb _ _ (c .before .before .before .before .before .before .if1 .left), size-listed (c .before .before .before .before .before .before .before .before .args .size) (omega arith) (omega arith), sym (c .before .before .before .all-name .ensures) ∙ not-false _ (c .before .before .if4 .left), sym (c .before .all-meet .ensures) ∙ not-true _ (c .if5 .taken))
 
--- src/lib.rt:68:1
 returns-6 : tie.Need-returns-6
 unfolding setupCode
 returns-6 c =

@@ -12,8 +12,6 @@ use Rattle.rig.specs.Limits.{siteLimit}
 use Rattle.model.specs.Setup.{keptSets}
 use Rattle.setup.proofs.kept.Statement.{statement}
 use Rattle.setup.proofs.kept.Tie as tie
-use Rattle.setup.proofs.kept.Reads as reads
-use Rattle.setup.proofs.kept.Lts as lts
 
 -- one set more, in the place of a 0
 one-more : (xs : List ℕ) (i m : ℕ) → i < length xs → set (take i xs ++ replicate (suc m) 0) i (getD xs i 0) ≡ take (suc i) xs ++ replicate m 0
@@ -28,35 +26,27 @@ Inv-loop size sets out₀ i₀ i-end out i =
 abbrev μ-loop : tie.MeasureT-loop
 μ-loop size sets out₀ i₀ i-end out i = size - i
 
--- src/lib.rt:95:5
 loop-holds : tie.Need-loop-holds Inv-loop μ-loop
 loop-holds c = search needs
 
--- src/lib.rt:96:18
 mul-out : tie.Need-mul-out Inv-loop μ-loop
 mul-out c = search needs
 
--- src/lib.rt:96:18
 shared-slice-read-out : tie.Need-shared-slice-read-out Inv-loop μ-loop
 shared-slice-read-out c = search needs
 
--- src/lib.rt:96:9
 mul-out-2 : tie.Need-mul-out-2 Inv-loop μ-loop
 mul-out-2 c = search needs
 
--- src/lib.rt:96:9
 array-write-out : tie.Need-array-write-out Inv-loop μ-loop
 array-write-out c = search needs
 
--- src/lib.rt:95:9
 add-i : tie.Need-add-i Inv-loop μ-loop
 add-i c = search needs
 
--- src/lib.rt:95:5
 loop-less : tie.Need-loop-less Inv-loop μ-loop
 loop-less c = search needs
 
--- src/lib.rt:95:5
 loop-again : tie.Need-loop-again Inv-loop μ-loop
 loop-again c =
     let l = c .before .before .loop in
@@ -68,7 +58,6 @@ loop-again c =
       rw (l .inv .3, room) (one-more xs (l .i) (siteLimit - (l .i + 1)) (omega arith) ∙ rw add-one),
     )
 
--- src/lib.rt:90:1
 returns : tie.Need-returns Inv-loop μ-loop
 unfolding keptSets
 returns c =

@@ -20,8 +20,6 @@ use Rattle.basics.proofs.Basics.{all-at, all-fails, all-more}
 use Rattle.model.proofs.Sets.{meet-and, names-below}
 use Rattle.setup.proofs.meets_earlier.Statement.{statement}
 use Rattle.setup.proofs.meets_earlier.Tie as tie
-use Rattle.setup.proofs.meets_earlier.Reads as reads
-use Rattle.setup.proofs.meets_earlier.Lts as lts
 
 -- two sets that name sites 1 to n only meet unless their bitwise and is 0
 meet-by-and : (n : ℕ) (sets : List ℕ) (k l : ℕ) → allName n sets ≡ true → k < n → meet n (getD sets k 0) (getD sets l 0) ≡ not (eqb (bitAnd (getD sets k 0) (getD sets l 0)) 0)
@@ -35,28 +33,22 @@ Inv-loop size sets k set i₀ i =
 abbrev μ-loop : tie.MeasureT-loop
 μ-loop size sets k set i₀ i = k - i
 
--- src/lib.rt:46:15
 mul-set : tie.Need-mul-set Inv-loop μ-loop
 mul-set c = search needs
 
--- src/lib.rt:46:15
 shared-slice-read-set : tie.Need-shared-slice-read-set Inv-loop μ-loop
 shared-slice-read-set c = search needs
 
--- src/lib.rt:47:5
 loop-holds : tie.Need-loop-holds Inv-loop μ-loop
 unfolding all
 loop-holds c = search needs
 
--- src/lib.rt:48:18
 mul-if1 : tie.Need-mul-if1 Inv-loop μ-loop
 mul-if1 c = search needs
 
--- src/lib.rt:48:18
 shared-slice-read-if1 : tie.Need-shared-slice-read-if1 Inv-loop μ-loop
 shared-slice-read-if1 c = search needs
 
--- src/lib.rt:49:13
 returns : tie.Need-returns Inv-loop μ-loop
 unfolding meetsEarlier at
 returns c =
@@ -65,15 +57,12 @@ returns c =
     let i = c .before .before .before .loop .i in
     rw add-one (sym (all-fails _ (a .k) (suc i) (omega arith) (omega arith) (meet-by-and (a .size) (now (a .sets)) (a .k) i (p .3) (p .2) ∙ ap not (eq-eqb _ 0 (c .if1 .taken)))))
 
--- src/lib.rt:47:9
 add-i : tie.Need-add-i Inv-loop μ-loop
 add-i c = search needs
 
--- src/lib.rt:47:5
 loop-less : tie.Need-loop-less Inv-loop μ-loop
 loop-less c = search needs
 
--- src/lib.rt:47:5
 loop-again : tie.Need-loop-again Inv-loop μ-loop
 unfolding at
 loop-again c =
@@ -82,7 +71,6 @@ loop-again c =
     let i = c .before .before .before .loop .i in
     (omega arith, all-more _ i (c .before .before .before .loop .inv .1) (meet-by-and (a .size) (now (a .sets)) (a .k) i (p .3) (p .2) ∙ ap not (ne-eqb _ 0 (c .if1 .left))))
 
--- src/lib.rt:42:1
 returns-2 : tie.Need-returns-2 Inv-loop μ-loop
 unfolding meetsEarlier
 returns-2 c = rw add-one (sym (rw (le-antisymm (c .before .loop .inv .0) (c .loop-test .left)) at (c .before .loop .inv .1)))

@@ -7,8 +7,6 @@ use Rattle.model.specs.Site.{enteredOrYielded}
 use Rattle.site.proofs.Does.{did-only}
 use Rattle.site.proofs.enter_or_yield.Statement.{statement}
 use Rattle.site.proofs.enter_or_yield.Tie as tie
-use Rattle.site.proofs.enter_or_yield.Reads as reads
-use Rattle.site.proofs.enter_or_yield.Lts as lts
 use Rattle.entries.proofs.all_held.Reads as all-held-reads
 use Rattle.entries.proofs.enter.Reads as enter-reads
 use Rattle.entries.proofs.has_failed.Reads as has-failed-reads

@@ -6,8 +6,6 @@ use Rattle.model.specs.Site.{failedSet, onFail}
 use Rattle.site.proofs.Does.{did-only}
 use Rattle.site.proofs.on_fail.Statement.{statement}
 use Rattle.site.proofs.on_fail.Tie as tie
-use Rattle.site.proofs.on_fail.Reads as reads
-use Rattle.site.proofs.on_fail.Lts as lts
 use Rattle.entries.proofs.failed_set.Reads as failed-set-reads
 use Rattle.entries.proofs.is_waiting.Reads as is-waiting-reads
 use Rattle.site.proofs.yield_members.Reads as yield-members-reads

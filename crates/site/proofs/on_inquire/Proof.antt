@@ -6,8 +6,6 @@ use Rattle.model.specs.Site.{onInquire}
 use Rattle.site.proofs.Does.{did-only}
 use Rattle.site.proofs.on_inquire.Statement.{statement}
 use Rattle.site.proofs.on_inquire.Tie as tie
-use Rattle.site.proofs.on_inquire.Reads as reads
-use Rattle.site.proofs.on_inquire.Lts as lts
 use Rattle.entries.proofs.is_waiting.Reads as is-waiting-reads
 use Rattle.site.proofs.yield_or_remember.Reads as yield-or-remember-reads
 

@@ -7,8 +7,6 @@ use Rattle.model.specs.Site.{taken, takes, onReply}
 use Rattle.site.proofs.Does.{did-only}
 use Rattle.site.proofs.on_reply.Statement.{statement}
 use Rattle.site.proofs.on_reply.Tie as tie
-use Rattle.site.proofs.on_reply.Reads as reads
-use Rattle.site.proofs.on_reply.Lts as lts
 use Rattle.entries.proofs.has.Reads as has-reads
 use Rattle.entries.proofs.is_waiting.Reads as is-waiting-reads
 use Rattle.entries.proofs.take.Reads as take-reads

@@ -7,8 +7,6 @@ use Rattle.model.specs.Site.{onTransfer}
 use Rattle.site.proofs.Does.{did-only}
 use Rattle.site.proofs.on_transfer.Statement.{statement}
 use Rattle.site.proofs.on_transfer.Tie as tie
-use Rattle.site.proofs.on_transfer.Reads as reads
-use Rattle.site.proofs.on_transfer.Lts as lts
 
 sub-i : tie.Need-sub-i
 sub-i c = search needs

@@ -5,8 +5,6 @@ use Rattle.model.specs.Site.{yieldedIf}
 use Rattle.site.proofs.Does.{did-only}
 use Rattle.site.proofs.yield_if.Statement.{statement}
 use Rattle.site.proofs.yield_if.Tie as tie
-use Rattle.site.proofs.yield_if.Reads as reads
-use Rattle.site.proofs.yield_if.Lts as lts
 use Rattle.entries.proofs.must_yield.Reads as must-yield-reads
 use Rattle.site.proofs.yield_member.Reads as yield-member-reads
 

@@ -11,8 +11,6 @@ use Rattle.mail.specs.Did.{Did}
 use Rattle.site.proofs.Does.{did-only, did-then, up-to-short}
 use Rattle.site.proofs.yield_members.Statement.{statement}
 use Rattle.site.proofs.yield_members.Tie as tie
-use Rattle.site.proofs.yield_members.Reads as reads
-use Rattle.site.proofs.yield_members.Lts as lts
 use Rattle.site.proofs.yield_if.Reads as yield-if-reads
 
 abbrev Inv-loop : tie.InvT-loop

@@ -7,8 +7,6 @@ use Rattle.model.specs.Site.{yieldedOrRemembered}
 use Rattle.site.proofs.Does.{did-only}
 use Rattle.site.proofs.yield_or_remember.Statement.{statement}
 use Rattle.site.proofs.yield_or_remember.Tie as tie
-use Rattle.site.proofs.yield_or_remember.Reads as reads
-use Rattle.site.proofs.yield_or_remember.Lts as lts
 use Rattle.entries.proofs.has_failed.Reads as has-failed-reads
 use Rattle.entries.proofs.remember.Reads as remember-reads
 use Rattle.site.proofs.yield_member.Reads as yield-member-reads

@@ -1,0 +1,2 @@
+-- Which rule a kind of message has.
+pub mod ByKind
