@@ -1,11 +1,10 @@
--- Messages sent one after another, and how many they are at most.
+-- How many messages an ask or a leave sends at most.
 use Prim.Native.Nat.{ℕ, zero, suc, _+_, _*_, _≤_}
-use mathlib.Core.Path.{_≡_, refl, sym, _∙_, ap}
 use mathlib.Core.Bool.{Bool, true, false, not, _&&_, cond}
-use mathlib.Core.List.{List, [], _∷_, _++_, map, append-nil, append-assoc, map-append}
+use mathlib.Core.List.{List, [], _∷_}
 use native.Mathlib.Omega.{arith}
 use lib.Dec.{eqb}
-use lib.ListN.{length, take, length-append}
+use lib.ListN.{length, length-append}
 use Rattle.rig.specs.declared.Desk.{Desk}
 use Rattle.rig.specs.declared.Message.{Message}
 use Rattle.rig.specs.Messages.{request}
@@ -13,23 +12,6 @@ use Rattle.model.specs.Desk.{has, heldFor, heirFor}
 use Rattle.model.specs.Ask.{requests}
 use Rattle.model.specs.Leave.{handOn, handOns}
 use Rattle.basics.proofs.Basics.{by-bool}
-use Rattle.mail.specs.Rows.{rowOf}
-use Rattle.asking.specs.Sent.{Sent}
-
--- nothing is sent
-pub sent-none : (n : ℕ) (rows : List (List ℕ)) → Sent [] n rows rows n
-sent-none n rows = record { count = omega arith; sent = sym (append-nil (take n rows)) }
-
--- what `append` ensures of one message
-pub sent-one : {m : Message} {n r : ℕ} {rows after : List (List ℕ)} → (r ≡ n + 1) × (take r after ≡ take n rows ++ (rowOf m ∷ [])) → Sent (m ∷ []) n rows after r
-sent-one h = record { count = h .0; sent = h .1 }
-
--- some messages, and then others
-pub sent-then : {a b : List Message} {n m r : ℕ} {rows mid after : List (List ℕ)} → Sent a n rows mid m → Sent b m mid after r → Sent (a ++ b) n rows after r
-sent-then {a} {b} {n} s t = record {
-  count = rw (length-append a b) (omega arith);
-  sent = t .sent ∙ rw (s .sent, map-append, append-assoc);
-}
 
 -- a list that a test may leave out is at most as long
 cond-short : (t : Bool) (a : List Message) (k : ℕ) → length a ≤ k → length (cond t a []) ≤ k

@@ -1,2 +1,2 @@
 pub mod Asks
-pub mod Sent
+pub mod Turns

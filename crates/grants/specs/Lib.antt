@@ -1,3 +1,2 @@
--- What this crate's functions ask, and what they promise of the messages sent.
+-- What the arbiter's calls ask of their caller.
 pub mod Asks
-pub mod Sent

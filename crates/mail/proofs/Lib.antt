@@ -3,3 +3,4 @@ pub mod Gap
 pub mod Clear
 pub mod Places
 pub mod Rows
+pub mod Sending

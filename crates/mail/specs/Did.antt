@@ -1,8 +1,9 @@
--- What a function that carries out an effect has done.
+-- What a function that sends messages, or carries out an effect, has done.
 use Prim.Native.Nat.{ℕ, _+_}
 use mathlib.Core.Path.{_≡_}
 use mathlib.Core.List.{List, _++_, map}
 use lib.ListN.{length, take}
+use Rattle.rig.specs.declared.Message.{Message}
 use Rattle.model.specs.Desk.{Effect}
 use Rattle.mail.specs.declared.Acted.{Acted}
 use Rattle.mail.specs.Rows.{rowOf}
@@ -12,3 +13,8 @@ pub record Did (e : Effect) (n : ℕ) (rows after : List (List ℕ)) (r : Acted)
   pub desk : r .desk ≡ e .desk
   pub count : r .count ≡ n + length (e .sent)
   pub sent : take (r .count) after ≡ take n rows ++ map rowOf (e .sent)
+
+-- the messages ms stand behind the first n rows, and r rows are now used
+pub record Sent (ms : List Message) (n : ℕ) (rows after : List (List ℕ)) (r : ℕ) : Type 0 where
+  pub count : r ≡ n + length ms
+  pub sent : take r after ≡ take n rows ++ map rowOf ms

@@ -16,9 +16,8 @@ ghost use mathlib.Core.Path.{_≡_};
 ghost use Prim.Native.Nat.{_≤_, _<_};
 ghost use Rattle.rig.specs.Limits.{siteLimit, Listed};
 ghost use Rattle.model.specs.Arbiter.{clockRaised, failFormer, inquireOrFail, answers, queuedUp, onRequest};
-ghost use Rattle.mail.specs.Did.{Did};
+ghost use Rattle.mail.specs.Did.{Did, Sent};
 ghost use Rattle.grants.specs.Asks.{Room};
-ghost use Rattle.grants.specs.Sent.{Sent};
 
 // The site's clock becomes the larger of itself and n.
 fn clock_raised(d: Desk, n: u64) -> Desk

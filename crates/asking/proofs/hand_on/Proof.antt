@@ -1,8 +1,9 @@
 -- `hand_on`: a release alone, or a reply and then a release.
+use mathlib.Core.Path.{refl}
 use borrow.Author.Tests.{ne-eqb}
 use borrow.Author.Needs.{needs}
 use Rattle.model.specs.Leave.{handOn}
-use Rattle.asking.proofs.Sends.{sent-one, sent-then}
+use Rattle.mail.proofs.Sending.{sent-one, sent-more}
 use Rattle.asking.proofs.hand_on.Statement.{statement}
 use Rattle.asking.proofs.hand_on.Tie as tie
 use Rattle.mail.proofs.append.Reads as append-reads
@@ -20,7 +21,7 @@ same-length c = search needs
 
 returns : tie.Need-returns
 unfolding handOn
-returns c = rw (c .before .before .before .before .if1 .taken, ← c .before .before .release .ensures) (sent-one (c .before .append .ensures))
+returns c = rw (c .before .before .before .before .if1 .taken, ← c .before .before .release .ensures) (sent-one refl (c .before .append .ensures))
 
 add-reply : tie.Need-add-reply
 add-reply c = search needs
@@ -43,9 +44,9 @@ same-length-2 c = search needs
 returns-2 : tie.Need-returns-2
 unfolding handOn
 returns-2 c =
-    let s = sent-one (rw (c .before .before .before .before .before .before .reply .ensures) at (c .before .before .before .before .before .append2 .ensures)) in
-    let t = sent-one (rw (c .before .before .release2 .ensures) at (c .before .append3 .ensures)) in
-    rw (ne-eqb _ _ (c .before .before .before .before .before .before .before .before .if1 .left)) (sent-then s t)
+    let s = sent-one refl (rw (c .before .before .before .before .before .before .reply .ensures) at (c .before .before .before .before .before .append2 .ensures)) in
+    let t = sent-one refl (rw (c .before .before .release2 .ensures) at (c .before .append3 .ensures)) in
+    rw (ne-eqb _ _ (c .before .before .before .before .before .before .before .before .if1 .left)) (sent-more s t)
 
 pub hand-on-spec : {M : Type 1} → statement M
 hand-on-spec =

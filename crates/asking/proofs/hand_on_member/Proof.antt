@@ -3,7 +3,7 @@ use native.Mathlib.Numerals.{add-one}
 use borrow.Author.Tests.{eq-eqb, ne-eqb}
 use borrow.Author.Needs.{needs}
 use Rattle.model.specs.Sets.{member}
-use Rattle.asking.proofs.Sends.{sent-none}
+use Rattle.mail.proofs.Sending.{sent-none}
 use Rattle.asking.proofs.hand_on_member.Statement.{statement}
 use Rattle.asking.proofs.hand_on_member.Tie as tie
 use Rattle.asking.proofs.hand_on.Reads as hand-on-reads
@@ -13,11 +13,11 @@ shr-if1 c = search needs
 
 returns : tie.Need-returns
 unfolding member
-returns c = rw (ne-eqb _ _ (c .if1 .taken)) (sent-none _ _)
+returns c = rw (ne-eqb _ _ (c .if1 .taken)) sent-none
 
 returns-2 : tie.Need-returns-2
 unfolding member
-returns-2 c = rw (eq-eqb _ _ (c .before .if1 .left), c .if2 .taken) (sent-none _ _)
+returns-2 c = rw (eq-eqb _ _ (c .before .if1 .left), c .if2 .taken) sent-none
 
 add-hand-on : tie.Need-add-hand-on
 add-hand-on c = search needs

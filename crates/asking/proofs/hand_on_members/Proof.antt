@@ -8,8 +8,9 @@ use lib.ListN.{length}
 use borrow.Author.Needs.{needs}
 use Rattle.model.specs.Tables.{at}
 use Rattle.model.specs.Leave.{handOns}
-use Rattle.asking.specs.Sent.{Sent}
-use Rattle.asking.proofs.Sends.{sent-none, sent-then, handOns-short}
+use Rattle.mail.specs.Did.{Sent}
+use Rattle.asking.proofs.Sends.{handOns-short}
+use Rattle.mail.proofs.Sending.{sent-none, sent-more}
 use Rattle.asking.proofs.hand_on_members.Statement.{statement}
 use Rattle.asking.proofs.hand_on_members.Tie as tie
 use Rattle.asking.proofs.hand_on_member.Reads as hand-on-member-reads
@@ -23,7 +24,7 @@ abbrev μ-loop : tie.MeasureT-loop
 
 loop-holds : tie.Need-loop-holds Inv-loop μ-loop
 unfolding handOns
-loop-holds c = (sent-none _ _, omega arith, refl, refl)
+loop-holds c = (sent-none, omega arith, refl, refl)
 
 mul-k : tie.Need-mul-k Inv-loop μ-loop
 mul-k c = search needs
@@ -57,7 +58,7 @@ unfolding handOns at
 loop-again c =
     let l = c .before .before .before .before .before .before .loop in
     let t = c .before .hand-on-member in
-    (rw add-one (sent-then (l .inv .0) (t .ensures)), omega arith, refl, t .kept .1 .1 .1 .1 .1 .0 ∙ l .inv .3)
+    (rw add-one (sent-more (l .inv .0) (t .ensures)), omega arith, refl, t .kept .1 .1 .1 .1 .1 .0 ∙ l .inv .3)
 
 same-length : tie.Need-same-length Inv-loop μ-loop
 same-length c = c .before .loop .inv .3

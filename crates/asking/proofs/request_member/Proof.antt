@@ -1,9 +1,10 @@
 -- `request_member`: a request if the site is in the set, else nothing.
+use mathlib.Core.Path.{refl}
 use native.Mathlib.Numerals.{add-one}
 use borrow.Author.Tests.{eq-eqb, ne-eqb}
 use borrow.Author.Needs.{needs}
 use Rattle.model.specs.Sets.{member}
-use Rattle.asking.proofs.Sends.{sent-none, sent-one}
+use Rattle.mail.proofs.Sending.{sent-none, sent-one}
 use Rattle.asking.proofs.request_member.Statement.{statement}
 use Rattle.asking.proofs.request_member.Tie as tie
 use Rattle.mail.proofs.append.Reads as append-reads
@@ -27,11 +28,11 @@ same-length c = search needs
 returns : tie.Need-returns
 unfolding member
 returns c = rw (eq-eqb _ _ (c .before .before .before .before .if1 .taken))
-    (sent-one (rw (rw add-one at (c .before .before .request .ensures)) at (c .before .append .ensures)))
+    (sent-one refl (rw (rw add-one at (c .before .before .request .ensures)) at (c .before .append .ensures)))
 
 returns-2 : tie.Need-returns-2
 unfolding member
-returns-2 c = rw (ne-eqb _ _ (c .if1 .left)) (sent-none _ _)
+returns-2 c = rw (ne-eqb _ _ (c .if1 .left)) sent-none
 
 pub request-member-spec : {M : Type 1} → statement M
 request-member-spec =

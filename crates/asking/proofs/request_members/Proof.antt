@@ -7,8 +7,9 @@ use native.Mathlib.Nat.{le-antisymm}
 use lib.ListN.{length}
 use borrow.Author.Needs.{needs}
 use Rattle.model.specs.Ask.{requests}
-use Rattle.asking.specs.Sent.{Sent}
-use Rattle.asking.proofs.Sends.{sent-none, sent-then, requests-short}
+use Rattle.mail.specs.Did.{Sent}
+use Rattle.asking.proofs.Sends.{requests-short}
+use Rattle.mail.proofs.Sending.{sent-none, sent-more}
 use Rattle.asking.proofs.request_members.Statement.{statement}
 use Rattle.asking.proofs.request_members.Tie as tie
 use Rattle.asking.proofs.request_member.Reads as request-member-reads
@@ -22,7 +23,7 @@ abbrev μ-loop : tie.MeasureT-loop
 
 loop-holds : tie.Need-loop-holds Inv-loop μ-loop
 unfolding requests
-loop-holds c = (sent-none _ _, omega arith, refl, refl)
+loop-holds c = (sent-none, omega arith, refl, refl)
 
 request-member-requires : tie.Need-request-member-requires Inv-loop μ-loop
 request-member-requires c κs =
@@ -43,7 +44,7 @@ unfolding requests
 loop-again c =
     let l = c .before .before .before .before .loop in
     let t = c .before .request-member in
-    (rw add-one (sent-then (l .inv .0) (t .ensures)), omega arith, refl, t .kept .1 .1 .1 .1 .0 ∙ l .inv .3)
+    (rw add-one (sent-more (l .inv .0) (t .ensures)), omega arith, refl, t .kept .1 .1 .1 .1 .0 ∙ l .inv .3)
 
 same-length : tie.Need-same-length Inv-loop μ-loop
 same-length c = c .before .loop .inv .3

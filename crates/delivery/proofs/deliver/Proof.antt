@@ -1,6 +1,6 @@
 -- `deliver`: the rule of each kind, and nothing for a message of no kind.
 use borrow.Author.Needs.{needs}
-use Rattle.grants.proofs.Sending.{sent-none, did-sent}
+use Rattle.mail.proofs.Sending.{sent-none, did-sent}
 use Rattle.delivery.proofs.ByKind.{of-request, of-reply, of-release, of-inquire, of-fail, of-yield, of-transfer, of-no-kind}
 use Rattle.delivery.proofs.deliver.Statement.{statement}
 use Rattle.delivery.proofs.deliver.Tie as tie

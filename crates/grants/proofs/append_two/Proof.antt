@@ -1,7 +1,7 @@
 -- `append_two`: one `append`, then another.
 use mathlib.Core.Path.{refl}
 use borrow.Author.Needs.{needs}
-use Rattle.grants.proofs.Sending.{sent-one, sent-more}
+use Rattle.mail.proofs.Sending.{sent-one, sent-more}
 use Rattle.grants.proofs.append_two.Statement.{statement}
 use Rattle.grants.proofs.append_two.Tie as tie
 

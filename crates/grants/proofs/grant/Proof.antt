@@ -2,7 +2,7 @@
 use native.Mathlib.Omega.{arith}
 use borrow.Author.Needs.{needs}
 use Rattle.model.specs.Arbiter.{granted}
-use Rattle.grants.proofs.Sending.{sent-one, sent-more, did-sent}
+use Rattle.mail.proofs.Sending.{sent-one, sent-more, did-sent}
 use Rattle.grants.proofs.grant.Statement.{statement}
 use Rattle.grants.proofs.grant.Tie as tie
 

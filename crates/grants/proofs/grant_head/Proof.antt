@@ -4,7 +4,7 @@ use borrow.Author.Tests.{eq-eqb, ne-eqb}
 use borrow.Author.Needs.{needs}
 use Rattle.model.specs.Arbiter.{headOf, grantedHead}
 use Rattle.queue.proofs.Heads.{head-listed}
-use Rattle.grants.proofs.Sending.{sent-none, did-sent}
+use Rattle.mail.proofs.Sending.{sent-none, did-sent}
 use Rattle.grants.proofs.grant_head.Statement.{statement}
 use Rattle.grants.proofs.grant_head.Tie as tie
 

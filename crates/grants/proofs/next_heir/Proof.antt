@@ -3,7 +3,7 @@ use mathlib.Core.Path.{sym, _∙_}
 use borrow.Author.Tests.{eq-eqb, ne-eqb}
 use borrow.Author.Needs.{needs}
 use Rattle.model.specs.Arbiter.{headOf, nextHeir}
-use Rattle.grants.proofs.Sending.{sent-none, sent-one}
+use Rattle.mail.proofs.Sending.{sent-none, sent-one}
 use Rattle.grants.proofs.next_heir.Statement.{statement}
 use Rattle.grants.proofs.next_heir.Tie as tie
 

@@ -4,7 +4,7 @@ use borrow.Author.Tests.{eq-eqb, ne-eqb, not-true, not-false}
 use borrow.Author.Needs.{needs}
 use Rattle.model.specs.Arbiter.{headOf, inquireIfBefore, headNamed}
 use Rattle.queue.proofs.Heads.{head-listed}
-use Rattle.grants.proofs.Sending.{sent-none, sent-one, sent-more}
+use Rattle.mail.proofs.Sending.{sent-none, sent-one, sent-more}
 use Rattle.releases.proofs.head_named.Statement.{statement}
 use Rattle.releases.proofs.head_named.Tie as tie
 

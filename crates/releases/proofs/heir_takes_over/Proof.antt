@@ -2,7 +2,7 @@
 use native.Mathlib.Omega.{arith}
 use borrow.Author.Needs.{needs}
 use Rattle.model.specs.Arbiter.{heirTakesOver}
-use Rattle.grants.proofs.Sending.{did-sent}
+use Rattle.mail.proofs.Sending.{did-sent}
 use Rattle.releases.proofs.heir_takes_over.Statement.{statement}
 use Rattle.releases.proofs.heir_takes_over.Tie as tie
 

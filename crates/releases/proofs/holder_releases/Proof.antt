@@ -4,7 +4,7 @@ use native.Mathlib.Omega.{arith}
 use borrow.Author.Tests.{eq-eqb, ne-eqb}
 use borrow.Author.Needs.{needs}
 use Rattle.model.specs.Arbiter.{holderReleases}
-use Rattle.grants.proofs.Sending.{sent-none, did-sent}
+use Rattle.mail.proofs.Sending.{sent-none, did-sent}
 use Rattle.releases.proofs.holder_releases.Statement.{statement}
 use Rattle.releases.proofs.holder_releases.Tie as tie
 

@@ -2,7 +2,7 @@
 use mathlib.Core.Path.{sym, _∙_}
 use borrow.Author.Needs.{needs}
 use Rattle.model.specs.Arbiter.{onRelease}
-use Rattle.grants.proofs.Sending.{sent-none, did-sent}
+use Rattle.mail.proofs.Sending.{sent-none, did-sent}
 use Rattle.releases.proofs.on_release.Statement.{statement}
 use Rattle.releases.proofs.on_release.Tie as tie
 

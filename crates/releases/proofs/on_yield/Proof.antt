@@ -4,7 +4,7 @@ use native.Mathlib.Omega.{arith}
 use borrow.Author.Tests.{not-true, not-false}
 use borrow.Author.Needs.{needs}
 use Rattle.model.specs.Arbiter.{onYield}
-use Rattle.grants.proofs.Sending.{sent-none, did-sent}
+use Rattle.mail.proofs.Sending.{sent-none, did-sent}
 use Rattle.releases.proofs.on_yield.Statement.{statement}
 use Rattle.releases.proofs.on_yield.Tie as tie
 

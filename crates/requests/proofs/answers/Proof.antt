@@ -4,7 +4,8 @@ use native.Mathlib.Omega.{arith}
 use borrow.Author.Tests.{eq-eqb, ne-eqb}
 use borrow.Author.Needs.{needs}
 use Rattle.model.specs.Arbiter.{headOf, answers}
-use Rattle.grants.proofs.Sending.{sent-one, sent-more, fail-former-most}
+use Rattle.mail.proofs.Sending.{sent-one, sent-more}
+use Rattle.requests.proofs.Former.{fail-former-most}
 use Rattle.requests.proofs.answers.Statement.{statement}
 use Rattle.requests.proofs.answers.Tie as tie
 

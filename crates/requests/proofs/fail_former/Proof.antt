@@ -3,7 +3,7 @@ use mathlib.Core.Path.{sym, _∙_}
 use borrow.Author.Tests.{eq-eqb, ne-eqb, not-true, not-false}
 use borrow.Author.Needs.{needs}
 use Rattle.model.specs.Arbiter.{failFormer}
-use Rattle.grants.proofs.Sending.{sent-none, sent-one}
+use Rattle.mail.proofs.Sending.{sent-none, sent-one}
 use Rattle.requests.proofs.fail_former.Statement.{statement}
 use Rattle.requests.proofs.fail_former.Tie as tie
 

@@ -1,20 +1,12 @@
--- What a function that only sends messages has done.
-use Prim.Native.Nat.{ℕ, _+_}
-use mathlib.Core.Path.{_≡_}
+-- What one turn of a loop sends.
+use Prim.Native.Nat.{ℕ}
 use mathlib.Core.Bool.{not, _&&_, cond}
-use mathlib.Core.List.{List, [], _∷_, _++_, map}
+use mathlib.Core.List.{List, [], _∷_}
 use lib.Dec.{eqb}
-use lib.ListN.{length, take}
 use Rattle.rig.specs.declared.Message.{Message}
 use Rattle.rig.specs.Messages.{request}
 use Rattle.model.specs.Sets.{member}
 use Rattle.model.specs.Leave.{handOn}
-use Rattle.mail.specs.Rows.{rowOf}
-
--- the messages stand behind the first n rows; r counts the rows used
-pub record Sent (ms : List Message) (n : ℕ) (rows after : List (List ℕ)) (r : ℕ) : Type 0 where
-  pub count : r ≡ n + length ms
-  pub sent : take r after ≡ take n rows ++ map rowOf ms
 
 -- the request of site s to site j, if j is in its set
 abbrev pub requestIf : ℕ → ℕ → ℕ → ℕ → List Message

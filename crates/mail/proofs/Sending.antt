@@ -1,20 +1,14 @@
 -- Messages sent one after the other.
-use Prim.Native.Nat.{ℕ, _+_, _≤_}
+use Prim.Native.Nat.{ℕ, _+_}
 use mathlib.Core.Path.{_≡_, refl, sym, _∙_}
-use mathlib.Core.Bool.{not, _&&_}
 use mathlib.Core.List.{List, [], _∷_, _++_, map, append-assoc, append-nil, map-append}
 use native.Mathlib.Omega.{arith}
-use lib.Dec.{eqb}
 use lib.ListN.{length, take, length-append}
 use Rattle.rig.specs.declared.Desk.{Desk}
 use Rattle.rig.specs.declared.Message.{Message}
-use Rattle.model.specs.Priority.{comesBefore}
 use Rattle.model.specs.Desk.{effect}
-use Rattle.model.specs.Arbiter.{siteKey, holderKey, failFormer}
-use Rattle.basics.proofs.Basics.{by-bool}
 use Rattle.mail.specs.Rows.{rowOf}
-use Rattle.mail.specs.Did.{Did}
-use Rattle.grants.specs.Sent.{Sent}
+use Rattle.mail.specs.Did.{Did, Sent}
 
 -- none
 pub sent-none : {n : ℕ} {rows : List (List ℕ)} → Sent [] n rows rows n
@@ -35,11 +29,3 @@ module _ {n r : ℕ} {rows after : List (List ℕ)} where
   -- with the desk
   pub did-sent : {d : Desk} {ms : List Message} → Sent ms n rows after r → Did (effect d ms) n rows after (record { desk = d; count = r })
   did-sent s = record { desk = refl; count = s .count; sent = s .sent }
-
--- at most one message goes to the former head
-pub fail-former-most : (d : Desk) (k former : ℕ) → length (failFormer d k former) ≤ 1
-unfolding failFormer
-fail-former-most d k former =
-    by-bool (not (eqb former 0) && (not (eqb former k) && comesBefore (siteKey d former) (holderKey d)))
-    (λ e. rw e (omega arith))
-    (λ e. rw e (omega arith))

@@ -1,2 +1,0 @@
--- Messages sent one after another.
-pub mod Sending

@@ -1,0 +1,2 @@
+-- How many messages go to a former head.
+pub mod Former
