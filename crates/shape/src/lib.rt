@@ -11,14 +11,16 @@ use rig::Table;
 use setup::judge;
 ghost use mathlib.Core.Path.{_≡_};
 ghost use mathlib.Core.List.{map};
+ghost use Prim.Native.Nat.{min};
+ghost use lib.Dec.{leb};
 ghost use lib.ListN.{take};
-ghost use Rattle.rig.specs.Limits.{siteLimit};
+ghost use Rattle.rig.specs.Limits.{siteLimit, messageLimit};
 ghost use Rattle.basics.specs.Helpers.{all};
 ghost use Rattle.mail.specs.Rows.{messageOf};
 ghost use Rattle.model.specs.Sets.{member};
 ghost use Rattle.model.specs.Tables.{at};
 ghost use Rattle.model.specs.State.{isResting};
-ghost use Rattle.model.specs.Shape.{isNumber, isGiven, modeShaped, setsShaped, sitesShaped, arbitersShaped, entryShaped, numberShaped, aboutShaped, messageShaped, messagesShaped, tablesShaped};
+ghost use Rattle.model.specs.Shape.{isNumber, isGiven, modeShaped, setsShaped, sitesShaped, arbitersShaped, entryShaped, numberShaped, aboutShaped, messageShaped, messagesShaped, tablesShaped, wellShaped};
 ghost use Rattle.shape.specs.Parts.{tablesOf, tablesFor, isSite, tiedBy, siteFits, holderFits, arbiterFits, rowFits, heirFits, heirsFit, queueFits, eachRow, stored, emptyPast, plainFits, bothTied, releaseFits};
 
 // Site j is a member of the set.
@@ -417,4 +419,32 @@ pub fn messages_shaped(size: u64, sets: &[u64; Rig::SITES], list: &[Row], count:
         }
     }
     true
+}
+
+// "Messages under way: at most 1,024", of the first `count` of `len` messages.
+fn are_few(count: usize, len: usize) -> bool
+    ensures { λ r. ⌜ r ≡ leb (min count len) messageLimit ⌝ }
+{
+    count <= Rig::MESSAGES || len <= Rig::MESSAGES
+}
+
+// The whole state: the tables, and the first `count` messages of the list, which are under way. Where it is not, the code is 10.
+pub fn well_shaped(
+    rig: Rig,
+    held: &Table,
+    heir: &Table,
+    inquired: &Table,
+    queued: &Table,
+    list: &[Row],
+    count: usize,
+) -> bool
+    ensures { λ r. ⌜ r ≡ wellShaped (stored rig (now (held .entry)) (now (heir .entry)) (now (inquired .entry)) (now (queued .entry))) (map messageOf (take count (now (list .entry)))) ⌝ }
+{
+    if !tables_shaped(rig, held, heir, inquired, queued) {
+        return false;
+    }
+    if !are_few(count, list.len()) {
+        return false;
+    }
+    messages_shaped(rig.size, &rig.sets, list, count)
 }

@@ -4,8 +4,6 @@ use native.Mathlib.Omega.{arith}
 use Rattle.model.specs.Sets.{member}
 use Rattle.shape.proofs.Members.{member-past, member-bit}
 use borrow.Author.Needs.{needs}
-use Rattle.shape.proofs.Members.{member-past, member-bit}
-use Rattle.shape.proofs.Members.{member-past, member-bit}
 use Rattle.shape.proofs.is_member.Statement.{statement}
 use Rattle.shape.proofs.is_member.Tie as tie
 use Rattle.shape.proofs.is_member.Reads as reads

@@ -15,8 +15,6 @@ use Rattle.model.specs.Shape.{messageShaped, messagesShaped}
 use Rattle.shape.specs.Parts.{tablesFor}
 use Rattle.shape.proofs.Mails.{rows-more, rows-fail}
 use borrow.Author.Needs.{needs}
-use Rattle.shape.proofs.Mails.{rows-more, rows-fail}
-use Rattle.shape.proofs.Mails.{rows-more, rows-fail}
 use Rattle.shape.proofs.messages_shaped.Statement.{statement}
 use Rattle.shape.proofs.messages_shaped.Tie as tie
 use Rattle.shape.proofs.messages_shaped.Reads as reads

@@ -4,7 +4,6 @@ use borrow.Author.Tests.{le-leb, lt-leb, not-true, not-false}
 use denote.Ref.{now}
 use Rattle.shape.proofs.Whole.{tables-parts}
 use borrow.Author.Needs.{needs}
-use Rattle.shape.proofs.Whole.{tables-parts}
 use Rattle.shape.proofs.tables_shaped.Statement.{statement}
 use Rattle.shape.proofs.tables_shaped.Tie as tie
 use Rattle.shape.proofs.tables_shaped.Reads as reads
