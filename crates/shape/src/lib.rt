@@ -70,6 +70,7 @@ fn is_number(n: u64) -> bool
     n <= Rig::NUMBERS
 }
 
+// Such a number where there is one: at least 1.
 fn is_given(n: u64) -> bool
     ensures { λ r. ⌜ r ≡ isGiven n ⌝ }
 {
@@ -86,6 +87,7 @@ fn entry_shaped(tie: bool, n: u64) -> bool
     n == 0
 }
 
+// What site k has for each arbiter.
 fn row_shaped(sets: &[u64; Rig::SITES], k: u64, row: &[u64; Rig::SITES]) -> bool
     ensures { λ r. ⌜ r ≡ rowFits (now (sets .entry)) k (now (row .entry)) ⌝ }
 {
@@ -123,6 +125,7 @@ fn heir_shaped(sets: &[u64; Rig::SITES], k: u64, j: u64, heir: u64) -> bool
     tied(sets, heir, j)
 }
 
+// Site k's heirs, one for each arbiter.
 fn heir_row_shaped(sets: &[u64; Rig::SITES], k: u64, row: &[u64; Rig::SITES]) -> bool
     ensures { λ r. ⌜ r ≡ heirsFit (now (sets .entry)) k (now (row .entry)) ⌝ }
 {
@@ -147,7 +150,7 @@ pub fn heirs_shaped(sets: &[u64; Rig::SITES], table: &Table) -> bool
     true
 }
 
-// A site queued at arbiter j has j in its set.
+// Arbiter j's queue: a site queued has j in its set.
 fn queue_shaped(sets: &[u64; Rig::SITES], j: u64, row: &[u64; Rig::SITES]) -> bool
     ensures { λ r. ⌜ r ≡ queueFits (now (sets .entry)) j (now (row .entry)) ⌝ }
 {
@@ -339,6 +342,29 @@ fn plain_shaped(sets: &[u64; Rig::SITES], about: u64, k: u64, j: u64) -> bool
     tied(sets, k, j)
 }
 
+// Two sites are tied to arbiter j.
+fn both_tied(sets: &[u64; Rig::SITES], k: u64, heir: u64, j: u64) -> bool
+    ensures { λ r. ⌜ r ≡ bothTied (now (sets .entry)) k heir j ⌝ }
+{
+    if !tied(sets, k, j) {
+        return false;
+    }
+    tied(sets, heir, j)
+}
+
+// Site k is tied to arbiter j, and so is the heir where there is one.
+fn release_shaped(sets: &[u64; Rig::SITES], k: u64, j: u64, heir: u64) -> bool
+    ensures { λ r. ⌜ r ≡ releaseFits (now (sets .entry)) k j heir ⌝ }
+{
+    if !tied(sets, k, j) {
+        return false;
+    }
+    if heir == 0 {
+        return true;
+    }
+    tied(sets, heir, j)
+}
+
 // "`about` is the arbiter in a reply, the heir in a transfer, the heir or 0 in a release, otherwise 0", and each site is tied to its arbiter.
 fn about_shaped(sets: &[u64; Rig::SITES], m: Message) -> bool
     ensures { λ r. ⌜ r ≡ aboutShaped (tablesFor 0 (now (sets .entry))) m ⌝ }
@@ -365,29 +391,6 @@ fn about_shaped(sets: &[u64; Rig::SITES], m: Message) -> bool
         return both_tied(sets, m.to, m.about, m.from);
     }
     false
-}
-
-// Two sites are tied to arbiter j.
-fn both_tied(sets: &[u64; Rig::SITES], k: u64, heir: u64, j: u64) -> bool
-    ensures { λ r. ⌜ r ≡ bothTied (now (sets .entry)) k heir j ⌝ }
-{
-    if !tied(sets, k, j) {
-        return false;
-    }
-    tied(sets, heir, j)
-}
-
-// Site k is tied to arbiter j, and so is the heir where there is one.
-fn release_shaped(sets: &[u64; Rig::SITES], k: u64, j: u64, heir: u64) -> bool
-    ensures { λ r. ⌜ r ≡ releaseFits (now (sets .entry)) k j heir ⌝ }
-{
-    if !tied(sets, k, j) {
-        return false;
-    }
-    if heir == 0 {
-        return true;
-    }
-    tied(sets, heir, j)
 }
 
 // A message's fields are in range and fit its kind.
