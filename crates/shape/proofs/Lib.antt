@@ -1,0 +1,4 @@
+-- Laws that several proofs of this crate cite.
+pub mod Members
+pub mod Mails
+pub mod Whole
