@@ -22,6 +22,7 @@ use Rattle.model.specs.Priority.{comesBefore, goesFirst, queuedKey, head
 use Rattle.model.specs.Desk.{Effect, effect, queuedAt, withArbiter}
 use Rattle.model.specs.Arbiter.{grantOf, holderOf, holderKey, siteKey, headOf, heldBy, free, withQueued, without, nextHeir, granted, grantedHead, formerTold, failFormer, inquireOrFail, answers, queuedUp, inquireIfBefore, headNamed, heirTakesOver, holderReleases, fromHolder, isEarly, earlyRelease, onRelease, onYield}
 use Rattle.basics.proofs.Basics.{by-bool}
+use Rattle.model.proofs.Heads.{head-within}
 use Rattle.model.proofs.Tables.{at-put, length-put}
 use Rattle.model.proofs.Lawful.{before}
 use Rattle.model.proofs.Machine.{sentOf}
@@ -55,18 +56,6 @@ kept-then d u v x y = record { size = y .size ∙ x .size; number = y .number �
 -- a queue after a store
 queue-put : (q : List ℕ) (k n : ℕ) → length q ≡ siteLimit → 1 ≤ k → k ≤ siteLimit → _≡_ {A = ℕ → ℕ} (λ i. at 0 (put q k n) i) (update (λ i. at 0 q i) k n)
 queue-put q k n e lo hi = fun-ext (at-put 0 q k n lo (omega arith))
-
--- a head is one of the sites
-head-within : (row : List ℕ) (n : ℕ) → head row n ≤ n
-unfolding head headWith
-head-within row zero = omega arith
-head-within row (suc n) =
-    let ih = head-within row n in
-    by-bool (eqb (at 0 row (suc n)) 0)
-    (λ e. rw e (omega arith))
-    (λ e. by-bool (eqb (head row n) 0)
-    (λ f. rw (e, f) (omega arith))
-    (λ f. by-bool (goesFirst row (suc n) (head row n)) (λ g. rw (e, f, g) (omega arith)) (λ g. rw (e, f, g) (omega arith))))
 
 module _ (l : P.Local) (mem : ℕ → Bool) where
   -- the machine's setting for the desk

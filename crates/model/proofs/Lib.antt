@@ -3,6 +3,7 @@ pub mod Tables
 pub mod Sets
 pub mod Setup
 pub mod Lawful
+pub mod Heads
 pub mod Machine
 pub mod ArbiterRules
 pub mod ArbiterDelivered

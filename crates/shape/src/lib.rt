@@ -64,7 +64,7 @@ fn is_site(size: u64, k: u64) -> bool
 }
 
 // "Clocks, sequence and grant numbers: 0 to 2,000,000."
-fn is_number(n: u64) -> bool
+pub fn is_number(n: u64) -> bool
     ensures { λ r. ⌜ r ≡ isNumber n ⌝ }
 {
     n <= Rig::NUMBERS

@@ -6,7 +6,7 @@ use native.Mathlib.Omega.{arith}
 use native.Mathlib.Nat.{le-antisymm}
 use borrow.Author.Needs.{needs}
 use Rattle.model.specs.Priority.{head}
-use Rattle.queue.proofs.Heads.{head-within}
+use Rattle.model.proofs.Heads.{head-within}
 use Rattle.queue.proofs.head.Statement.{statement}
 use Rattle.queue.proofs.head.Tie as tie
 

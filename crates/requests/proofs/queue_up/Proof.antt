@@ -2,7 +2,7 @@
 use native.Mathlib.Omega.{arith}
 use borrow.Author.Needs.{needs}
 use Rattle.model.specs.Arbiter.{headOf, queuedUp}
-use Rattle.queue.proofs.Heads.{head-within}
+use Rattle.model.proofs.Heads.{head-within}
 use Rattle.mail.proofs.Sending.{did-sent}
 use Rattle.requests.proofs.queue_up.Statement.{statement}
 use Rattle.requests.proofs.queue_up.Tie as tie

@@ -1,0 +1,3 @@
+-- Laws of the limits.
+pub mod Numbered
+pub mod Codes
