@@ -1,0 +1,134 @@
+//! The commands: compare, play, generate and measure.
+
+use std::fs;
+use std::io::{self, BufWriter, Read, Write};
+use std::path::{Path, PathBuf};
+use std::process::ExitCode;
+use std::time::{Duration, SystemTime};
+
+use outside::compare::{compare, Plan};
+use outside::measure::measure;
+use outside::model::{play, Family, Site};
+use outside::options::Options;
+use outside::random::Random;
+use outside::rigs::{self, Lists};
+use outside::schedule::{write_text, Schedule};
+use outside::subject::Subject;
+
+const USAGE: &str = "\
+outside compare PLAYER_BINARY [--seed S] [--texts N] [--seconds T] [--jobs J]
+                              [--no-spent] [--timeout T] [--shrink-seconds T] [--folder F]
+outside play FILE|-
+outside generate --family grid:3|billiard:7|plane:5|full:31 --events K [--seed S] [--swell]
+outside measure PLAYER_BINARY [--events K] [--rounds R] [--seed S] ";
+
+fn main() -> ExitCode {
+    let mut words = std::env::args().skip(1);
+    let command = words.next().unwrap_or_default();
+    let options = Options::new(words);
+    let outcome = match command.as_str() {
+        "compare" => compare_command(options),
+        "play" => play_command(options),
+        "generate" => generate_command(options),
+        "measure" => measure_command(options),
+        _ => Err(format!("usage:\n{USAGE}")),
+    };
+    match outcome {
+        Ok(true) => ExitCode::SUCCESS,
+        Ok(false) => ExitCode::from(1),
+        Err(message) => {
+            eprintln!("{message}");
+            ExitCode::from(2)
+        }
+    }
+}
+
+fn seconds(number: u64) -> Duration {
+    Duration::from_secs(number)
+}
+
+fn seed_of_the_moment() -> u64 {
+    let since = SystemTime::now().duration_since(SystemTime::UNIX_EPOCH);
+    since.map_or(1, |since| since.as_nanos() as u64) % 1_000_000_000
+}
+
+fn compare_command(mut options: Options) -> Result<bool, String> {
+    let seed = options.value("--seed")?.unwrap_or_else(seed_of_the_moment);
+    let texts = options.value("--texts")?;
+    let time = options.value("--seconds")?.map(seconds);
+    let plan = Plan {
+        seed,
+        texts: match (texts, time) {
+            (None, None) => Some(5_000),
+            _ => texts,
+        },
+        time,
+        spent: !options.flag("--no-spent"),
+        jobs: options.value("--jobs")?.unwrap_or(2),
+        shrinking: seconds(options.value("--shrink-seconds")?.unwrap_or(60)),
+        folder: options.value("--folder")?.unwrap_or_else(|| PathBuf::from(".")),
+    };
+    let patience = seconds(options.value("--timeout")?.unwrap_or(120));
+    let binary = options.word("the player's file")?;
+    options.finish()?;
+    compare(&Subject::new(Path::new(&binary), patience)?, &plan)
+}
+
+fn play_command(mut options: Options) -> Result<bool, String> {
+    let name = options.word("a file, or - for standard input")?;
+    options.finish()?;
+    let mut text = Vec::new();
+    let read = if name == "-" {
+        io::stdin().read_to_end(&mut text).map(|_| ())
+    } else {
+        fs::read(&name).map(|bytes| text = bytes)
+    };
+    read.map_err(|error| format!("{name}: {error}"))?;
+    written(io::stdout().write_all(&play(&text)))
+}
+
+fn generate_command(mut options: Options) -> Result<bool, String> {
+    let name: String = options.value("--family")?.ok_or("--family is missing")?;
+    let events = options.value("--events")?.ok_or("--events is missing")?;
+    let seed = options.value("--seed")?.unwrap_or(1);
+    let swell = options.flag("--swell");
+    options.finish()?;
+    let lists = lists(&name).ok_or(format!("{name:?} is no family with a listed parameter"))?;
+    let random = Random::new(seed);
+    let schedule = if swell { Schedule::swelling(random) } else { Schedule::busy(random) };
+    let mut out = BufWriter::new(io::stdout().lock());
+    written(write_text(&lists, schedule, events, &mut out).and_then(|()| out.flush()))
+}
+
+fn measure_command(mut options: Options) -> Result<bool, String> {
+    let events = options.value("--events")?.unwrap_or(1_000_000);
+    let rounds = options.value("--rounds")?.unwrap_or(3);
+    let seed = options.value("--seed")?.unwrap_or(1);
+    let binary = options.word("the player's file")?;
+    options.finish()?;
+    let subject = Subject::new(Path::new(&binary), Duration::MAX)?;
+    measure(&subject, events, rounds, seed)
+}
+
+/// Request sets by name: `grid:3`, `billiard:7`, `plane:5`; also `full:31`,
+/// where every set has all sites.
+fn lists(name: &str) -> Option<Lists> {
+    let (kind, parameter) = name.split_once(':')?;
+    let parameter: Site = parameter.parse().ok()?;
+    let family = match kind {
+        "grid" => Family::Grid(parameter),
+        "billiard" => Family::Billiard(parameter),
+        "plane" => Family::Plane(parameter),
+        "full" => return (1..=31).contains(&parameter).then(|| rigs::full(parameter.into())),
+        _ => return None,
+    };
+    family.lists().ok()
+}
+
+/// A reader that goes away early (as `head` does) is no fault of ours.
+fn written(outcome: io::Result<()>) -> Result<bool, String> {
+    match outcome {
+        Err(error) if error.kind() != io::ErrorKind::BrokenPipe => Err(error.to_string()),
+        _ => Ok(true),
+    }
+}

@@ -1,0 +1,70 @@
+//! Document 01, written out plainly.
+//!
+//! The player's text cannot make a misshapen state, so the check for one
+//! (code 10) is left out; everything else of the paper is here.
+
+pub mod desk;
+pub mod families;
+pub mod grammar;
+pub mod message;
+pub mod player;
+pub mod rig;
+pub mod setup;
+pub mod turn;
+
+pub use desk::{Arbiter, Claim, Desk, Mode, Tie};
+pub use families::Family;
+pub use grammar::Event;
+pub use message::{Body, Message};
+pub use player::{play, play_with};
+pub use rig::{Change, Rig};
+
+/// The number of a site, from 1. Texts may also name sites that do not exist.
+pub type Site = u16;
+
+/// The most sites a rig may have; also the length of a buffer of sets.
+pub const MOST_SITES: usize = 31;
+/// The most messages that may be under way.
+pub const MOST_UNDER_WAY: usize = 1_024;
+/// The most events that may be accepted in a run.
+pub const MOST_ACCEPTED: u32 = 1_000_000;
+/// The largest clock, sequence number or grant number.
+pub const LARGEST_NUMBER: u32 = 2_000_000;
+/// The most bytes a line may have before its byte 10.
+pub const LONGEST_LINE: usize = 96;
+
+/// Why something was turned down, with the paper's code.
+#[derive(Clone, Copy, Debug, PartialEq, Eq, PartialOrd, Ord, Hash)]
+pub enum Refusal {
+    /// The number of sites is not 1 to 31.
+    SiteCount = 1,
+    /// A set is empty or names a site that does not exist.
+    FaultySet = 2,
+    /// Two sets share no site.
+    SetsMiss = 3,
+    /// An event names a site that does not exist.
+    NoSuchSite = 4,
+    /// An ask by a site that is not at rest.
+    NotAtRest = 5,
+    /// A leave by a site that is not inside.
+    NotInside = 6,
+    /// A delivery where nothing is under way.
+    NothingUnderWay = 7,
+    /// The list of messages would pass its limit.
+    ListFull = 8,
+    /// The events are spent, or a number would pass its limit.
+    Spent = 9,
+    /// A line is malformed, at the wrong place, or lacking.
+    Malformed = 11,
+    /// A family has no such parameter.
+    Parameter = 12,
+    /// A lent buffer has the wrong length.
+    Buffer = 13,
+}
+
+impl Refusal {
+    /// The number the paper gives this refusal.
+    pub fn code(self) -> u8 {
+        self as u8
+    }
+}

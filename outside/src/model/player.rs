@@ -1,0 +1,237 @@
+//! The program that plays a text of events.
+
+use std::io::Write;
+
+use super::grammar::{event_line, set_line, sites_line, Event, Line, Lines};
+use super::setup::{judge_count, judge_sets};
+use super::{Refusal, Rig, Site};
+
+/// Plays a text and gives all that is printed.
+pub fn play(text: &[u8]) -> Vec<u8> {
+    play_with(text, Rig::apply)
+}
+
+/// Plays a text with another step in place of [`Rig::apply`].
+pub fn play_with(text: &[u8], mut step: impl FnMut(&mut Rig, Event) -> Result<(), Refusal>) -> Vec<u8> {
+    let mut lines = Lines::new(text);
+    let mut output = Vec::new();
+    let outcome =
+        read_rig(&mut lines).and_then(|mut rig| play_events(&mut lines, &mut rig, &mut step, &mut output));
+    if let Err(stop) = outcome {
+        let code = stop.refusal.code();
+        writeln!(output, "stop={code} line={}", stop.line).expect("a Vec takes all");
+    }
+    output
+}
+
+/// Why and at which line a run ends early.
+struct Stop {
+    refusal: Refusal,
+    line: usize,
+}
+
+/// A line that must be there, in the form that `parse` knows.
+fn require<T>(lines: &mut Lines, parse: impl Fn(&[u8]) -> Option<T>) -> Result<T, Stop> {
+    let parsed = match lines.next_line() {
+        Line::Whole(line) => parse(line),
+        Line::Broken | Line::Lacking => None,
+    };
+    parsed.ok_or(malformed(lines))
+}
+
+fn malformed(lines: &Lines) -> Stop {
+    Stop { refusal: Refusal::Malformed, line: lines.number() }
+}
+
+/// Reads `sites=` and the sets. The count is judged before a later line is
+/// read, the sets after the last of them.
+fn read_rig(lines: &mut Lines) -> Result<Rig, Stop> {
+    let n = usize::from(require(lines, sites_line)?);
+    judge_count(n).map_err(|refusal| Stop { refusal, line: 1 })?;
+    let lists: Vec<Vec<Site>> = (0..n).map(|_| require(lines, set_line)).collect::<Result<_, _>>()?;
+    let sets: Vec<u64> = lists.iter().map(|list| super::setup::set_of(list)).collect();
+    // The set of site s stands on line s + 1.
+    judge_sets(&sets).map_err(|(refusal, site)| Stop { refusal, line: site + 1 })?;
+    Ok(Rig::from_lists(&lists).expect("the sets were judged"))
+}
+
+/// Plays events until the input ends or a line is malformed.
+fn play_events(
+    lines: &mut Lines,
+    rig: &mut Rig,
+    step: &mut impl FnMut(&mut Rig, Event) -> Result<(), Refusal>,
+    output: &mut Vec<u8>,
+) -> Result<(), Stop> {
+    for place in 1.. {
+        let event = match lines.next_line() {
+            Line::Lacking => break,
+            Line::Broken => None,
+            Line::Whole(line) => event_line(line),
+        };
+        let event = event.ok_or(malformed(lines))?;
+        let code = step(rig, event).err().map_or(0, Refusal::code);
+        print_step(output, place, code, rig);
+    }
+    Ok(())
+}
+
+fn print_step(output: &mut Vec<u8>, place: usize, code: u8, rig: &Rig) {
+    let inside = rig.inside().unwrap_or(0);
+    let waiting = rig.waiting();
+    let flying = rig.under_way().len();
+    writeln!(output, "step={place} code={code} inside={inside} waiting={waiting} flying={flying}")
+        .expect("a Vec takes all");
+}
+
+#[cfg(test)]
+mod tests {
+    use super::*;
+
+    fn played(text: &str) -> String {
+        String::from_utf8(play(text.as_bytes())).unwrap()
+    }
+
+    const EXAMPLE: &str = "sites=2\nset=1\nset=1\nask=1\nmove=1,1\nmove=1,1\nask=2\nmove=2,1\n\
+        move=1,1\nleave=1\nmove=1,2\nmove=1,2\nleave=2\nmove=2,1\nmove=1,1\nmove=1,1\n";
+
+    const EXAMPLE_OUTPUT: &str = "\
+step=1 code=0 inside=0 waiting=1 flying=1
+step=2 code=0 inside=0 waiting=1 flying=1
+step=3 code=0 inside=1 waiting=0 flying=0
+step=4 code=0 inside=1 waiting=1 flying=1
+step=5 code=0 inside=1 waiting=1 flying=2
+step=6 code=0 inside=1 waiting=1 flying=1
+step=7 code=0 inside=0 waiting=1 flying=3
+step=8 code=0 inside=0 waiting=1 flying=2
+step=9 code=0 inside=2 waiting=0 flying=1
+step=10 code=0 inside=0 waiting=0 flying=2
+step=11 code=0 inside=0 waiting=0 flying=1
+step=12 code=0 inside=0 waiting=0 flying=0
+step=13 code=7 inside=0 waiting=0 flying=0
+";
+
+    #[test]
+    fn the_printed_example() {
+        assert_eq!(played(EXAMPLE), EXAMPLE_OUTPUT);
+    }
+
+    #[test]
+    fn every_cut_of_the_example() {
+        for cut in 0..=EXAMPLE.len() {
+            let text = &EXAMPLE[..cut];
+            let whole = text.matches('\n').count();
+            let steps = whole.saturating_sub(3);
+            let mut expected: String = EXAMPLE_OUTPUT.split_inclusive('\n').take(steps).collect();
+            if !text.ends_with('\n') || whole < 3 {
+                expected += &format!("stop=11 line={}\n", whole + 1);
+            }
+            assert_eq!(played(text), expected, "cut at {cut}");
+        }
+    }
+
+    #[test]
+    fn the_first_line() {
+        assert_eq!(played(""), "stop=11 line=1\n");
+        assert_eq!(played("\n"), "stop=11 line=1\n");
+        assert_eq!(played("sites=\n"), "stop=11 line=1\n");
+        assert_eq!(played("sites=1"), "stop=11 line=1\n");
+        assert_eq!(played("sites=32"), "stop=11 line=1\n");
+        assert_eq!(played("sites=01\nset=1\n"), "stop=11 line=1\n");
+        assert_eq!(played("sites=1000\n"), "stop=11 line=1\n");
+        assert_eq!(played("set=1\n"), "stop=11 line=1\n");
+        assert_eq!(played("sites=0\n"), "stop=1 line=1\n");
+        assert_eq!(played("sites=32\n"), "stop=1 line=1\n");
+        assert_eq!(played("sites=999\nrubbish"), "stop=1 line=1\n");
+        assert_eq!(played("sites=31\n"), "stop=11 line=2\n");
+        assert_eq!(played("sites=1\nsites=1\n"), "stop=11 line=2\n");
+    }
+
+    #[test]
+    fn the_sets() {
+        assert_eq!(played("sites=1\nset=1\n"), "");
+        assert_eq!(played("sites=1\nset=1"), "stop=11 line=2\n");
+        assert_eq!(played("sites=1\nset=\n"), "stop=11 line=2\n");
+        assert_eq!(played("sites=1\nset=0\n"), "stop=2 line=2\n");
+        assert_eq!(played("sites=1\nset=0,1\n"), "stop=2 line=2\n");
+        assert_eq!(played("sites=1\nset=2\n"), "stop=2 line=2\n");
+        assert_eq!(played("sites=1\nset=1,64\n"), "stop=2 line=2\n");
+        assert_eq!(played("sites=1\nset=1,65\n"), "stop=2 line=2\n");
+        assert_eq!(played("sites=1\nset=1,999\n"), "stop=2 line=2\n");
+        assert_eq!(played("sites=2\nset=1\n"), "stop=11 line=3\n");
+        assert_eq!(played("sites=2\nset=1\nask=1\n"), "stop=11 line=3\n");
+        assert_eq!(played("sites=2\nset=1\nset=2\n"), "stop=3 line=3\n");
+        assert_eq!(played("sites=2\nset=2\nset=1\nrubbish\n"), "stop=3 line=3\n");
+    }
+
+    #[test]
+    fn form_then_2_then_3() {
+        assert_eq!(played("sites=3\nset=9\nset=1\nset=1,\n"), "stop=11 line=4\n");
+        assert_eq!(played("sites=3\nset=9\nset=1\n"), "stop=11 line=4\n");
+        assert_eq!(played("sites=3\nset=1\nset=2\nset=4\n"), "stop=2 line=4\n");
+        assert_eq!(played("sites=3\nset=4\nset=2\nset=4\n"), "stop=2 line=2\n");
+        assert_eq!(played("sites=3\nset=1,2\nset=2\nset=1\n"), "stop=3 line=4\n");
+        assert_eq!(played("sites=3\nset=1\nset=2\nset=3\n"), "stop=3 line=3\n");
+    }
+
+    #[test]
+    fn the_events() {
+        let one = "sites=1\nset=1\n";
+        let stop = |events: &str| played(&format!("{one}{events}"));
+        assert_eq!(stop("\n"), "stop=11 line=3\n");
+        assert_eq!(stop("set=1\n"), "stop=11 line=3\n");
+        assert_eq!(stop("ask=1\r\n"), "stop=11 line=3\n");
+        assert_eq!(
+            stop("ask=1\nask=01\nask=1\n"),
+            "step=1 code=0 inside=0 waiting=1 flying=1\nstop=11 line=4\n"
+        );
+        assert_eq!(
+            stop("ask=2\nmove=0,1\nleave=1\nleave"),
+            "step=1 code=4 inside=0 waiting=0 flying=0\n\
+             step=2 code=4 inside=0 waiting=0 flying=0\n\
+             step=3 code=6 inside=0 waiting=0 flying=0\n\
+             stop=11 line=6\n"
+        );
+    }
+
+    /// A set line of the given length that is well formed but for its length.
+    fn long_set(length: usize) -> String {
+        let mut line = String::from("set=1");
+        // Two bytes, then three, then four for each further number.
+        let mut next = match (length - line.len()) % 4 {
+            0 => 100,
+            2 => 9,
+            3 => 99,
+            _ => 98,
+        };
+        if next == 98 {
+            line += ",9";
+            next = 99;
+        }
+        while line.len() < length {
+            line += &format!(",{next}");
+            next = if next < 100 { 100 } else { next + 1 };
+        }
+        assert_eq!(line.len(), length);
+        line
+    }
+
+    #[test]
+    fn a_line_has_at_most_96_bytes() {
+        for length in 90..=96 {
+            let text = format!("sites=1\n{}\n", long_set(length));
+            assert_eq!(played(&text), "stop=2 line=2\n", "{length}");
+        }
+        for length in 97..=110 {
+            let text = format!("sites=1\n{}\n", long_set(length));
+            assert_eq!(played(&text), "stop=11 line=2\n", "{length}");
+        }
+    }
+
+    #[test]
+    fn a_full_set_of_31_fits_a_line() {
+        let list: Vec<String> = (1..=31).map(|n| n.to_string()).collect();
+        let set = format!("set={}\n", list.join(","));
+        let text = format!("sites=31\n{}ask=31\n", set.repeat(31));
+        assert_eq!(played(&text), "step=1 code=0 inside=0 waiting=1 flying=31\n");
+    }
+}

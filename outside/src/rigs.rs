@@ -1,0 +1,186 @@
+//! Request sets to play with: the families, and sets made at random.
+
+use crate::model::setup::{members, set_of};
+use crate::model::{Family, Site, MOST_SITES};
+use crate::random::Random;
+
+/// The sets of all sites, each ascending, site 1 first.
+pub type Lists = Vec<Vec<Site>>;
+
+/// The sets of a listed family, chosen at random.
+pub fn any_family(random: &mut Random) -> Lists {
+    let family = random.pick(&Family::ALL);
+    family.lists().expect("a listed parameter")
+}
+
+/// Random sets of which every two meet.
+pub fn meeting(random: &mut Random) -> Lists {
+    let n = any_size(random);
+    match random.below(6) {
+        0 => around_a_centre(random, n),
+        1 => majorities(random, n),
+        2 => full(n),
+        3 => all_equal(random, n),
+        4 => small_then_mended(random, n),
+        _ => thinned(random),
+    }
+}
+
+/// Random sets that may well miss each other, none empty, all inside.
+pub fn perhaps_missing(random: &mut Random) -> Lists {
+    let n = any_size(random);
+    let percent = random.between(5, 60);
+    let mut lists: Lists = (0..n).map(|_| some_sites(random, n, percent)).collect();
+    if random.once_in(2) {
+        // Mostly meeting, with one set that may not.
+        mend(random, &mut lists);
+        let spoilt = random.below(n);
+        lists[spoilt] = vec![random.between(1, n) as Site];
+    }
+    lists
+}
+
+/// A number of sites: often small, often the largest.
+pub fn any_size(random: &mut Random) -> usize {
+    match random.below(4) {
+        0 => random.between(1, 4),
+        1 => random.between(1, 12),
+        2 => random.between(1, MOST_SITES),
+        _ => random.between(MOST_SITES - 3, MOST_SITES),
+    }
+}
+
+/// Every set has one common site.
+fn around_a_centre(random: &mut Random, n: usize) -> Lists {
+    let centre = random.between(1, n) as Site;
+    let percent = random.below(40);
+    (0..n).map(|_| with(some_sites(random, n, percent), centre)).collect()
+}
+
+/// Every set has all sites.
+pub fn full(n: usize) -> Lists {
+    vec![(1..=n as Site).collect(); n]
+}
+
+/// Every set has more than half of the sites.
+pub fn majorities(random: &mut Random, n: usize) -> Lists {
+    (0..n)
+        .map(|_| {
+            let mut list = Vec::new();
+            while list.len() <= n / 2 {
+                list = with(list, random.between(1, n) as Site);
+            }
+            list
+        })
+        .collect()
+}
+
+fn all_equal(random: &mut Random, n: usize) -> Lists {
+    let percent = random.between(1, 100);
+    vec![some_sites(random, n, percent); n]
+}
+
+/// Small sets, enlarged where two miss each other.
+fn small_then_mended(random: &mut Random, n: usize) -> Lists {
+    let mut lists: Lists = (0..n).map(|_| some_sites(random, n, 15)).collect();
+    mend(random, &mut lists);
+    lists
+}
+
+/// A family of which some members are taken out as long as all sets meet.
+fn thinned(random: &mut Random) -> Lists {
+    let mut lists = any_family(random);
+    for _ in 0..20 {
+        let place = random.below(lists.len());
+        if lists[place].len() > 1 {
+            let kept = lists[place].clone();
+            let gone = random.below(kept.len());
+            lists[place].remove(gone);
+            let meets_all = lists.iter().all(|other| meet(other, &lists[place]));
+            if !meets_all {
+                lists[place] = kept;
+            }
+        }
+    }
+    lists
+}
+
+/// Adds members until every two sets meet.
+fn mend(random: &mut Random, lists: &mut Lists) {
+    for a in 0..lists.len() {
+        for b in 0..a {
+            if !meet(&lists[a], &lists[b]) {
+                let shared = random.pick(&lists[b]);
+                lists[a] = with(std::mem::take(&mut lists[a]), shared);
+            }
+        }
+    }
+}
+
+fn meet(a: &[Site], b: &[Site]) -> bool {
+    set_of(a) & set_of(b) != 0
+}
+
+/// The list with one more site, unless it was there.
+fn with(list: Vec<Site>, site: Site) -> Vec<Site> {
+    members(set_of(&list) | set_of(&[site]))
+}
+
+/// Some of the sites 1 to `n`, at least one.
+fn some_sites(random: &mut Random, n: usize, percent: usize) -> Vec<Site> {
+    let list: Vec<Site> = (1..=n as Site).filter(|_| random.percent(percent)).collect();
+    if list.is_empty() {
+        vec![random.between(1, n) as Site]
+    } else {
+        list
+    }
+}
+
+/// The lines `sites=` and `set=` for the given sets.
+pub fn head(lists: &[Vec<Site>]) -> String {
+    let mut text = format!("sites={}\n", lists.len());
+    for list in lists {
+        text += &set_line(list);
+    }
+    text
+}
+
+/// One line `set=` with its byte 10.
+pub fn set_line(list: &[Site]) -> String {
+    let numbers: Vec<String> = list.iter().map(Site::to_string).collect();
+    format!("set={}\n", numbers.join(","))
+}
+
+#[cfg(test)]
+mod tests {
+    use super::*;
+    use crate::model::{Refusal, Rig};
+
+    #[test]
+    fn meeting_sets_pass_setup() {
+        let mut random = Random::new(1);
+        let mut sizes = [0; 32];
+        for _ in 0..2000 {
+            let lists = meeting(&mut random);
+            sizes[lists.len()] += 1;
+            assert!(Rig::from_lists(&lists).is_ok(), "{lists:?}");
+        }
+        assert!(sizes[1..].iter().all(|&count| count > 0));
+    }
+
+    #[test]
+    fn others_often_miss() {
+        let mut random = Random::new(2);
+        let mut missed = 0;
+        for _ in 0..1000 {
+            match Rig::from_lists(&perhaps_missing(&mut random)) {
+                Ok(_) => {}
+                Err(refusal) => {
+                    assert_eq!(refusal, Refusal::SetsMiss);
+                    missed += 1;
+                }
+            }
+        }
+        assert!((300..900).contains(&missed), "{missed}");
+    }
+}

@@ -1,0 +1,122 @@
+//! Runs the player under comparison.
+
+use std::fmt;
+use std::io::{Read, Write};
+use std::path::{Path, PathBuf};
+use std::process::{Child, Command, ExitStatus, Stdio};
+use std::sync::mpsc;
+use std::thread;
+use std::time::Duration;
+
+/// A program that plays the text on its standard input.
+#[derive(Clone, Debug)]
+pub struct Subject {
+    binary: PathBuf,
+    patience: Duration,
+    environment: Vec<(String, String)>,
+}
+
+/// What came of playing one text.
+#[derive(Clone, Debug, PartialEq, Eq)]
+pub struct Played {
+    /// All it printed.
+    pub output: Vec<u8>,
+    /// How it ended.
+    pub ending: Ending,
+}
+
+/// How a player ended.
+#[derive(Clone, Copy, Debug, PartialEq, Eq, PartialOrd, Ord)]
+pub enum Ending {
+    /// By itself, with this exit code.
+    Exited(i32),
+    /// By a signal.
+    Killed,
+    /// Not in time; it was ended.
+    OutOfTime,
+}
+
+impl fmt::Display for Ending {
+    fn fmt(&self, f: &mut fmt::Formatter<'_>) -> fmt::Result {
+        match self {
+            Ending::Exited(code) => write!(f, "exit code {code}"),
+            Ending::Killed => write!(f, "killed by a signal"),
+            Ending::OutOfTime => write!(f, "did not end in time"),
+        }
+    }
+}
+
+impl Ending {
+    fn of(status: ExitStatus) -> Ending {
+        status.code().map_or(Ending::Killed, Ending::Exited)
+    }
+}
+
+impl Subject {
+    /// The player in the given file, which is given so long for each text.
+    pub fn new(binary: &Path, patience: Duration) -> Result<Subject, String> {
+        let binary = binary.canonicalize().map_err(|error| format!("{}: {error}", binary.display()))?;
+        Ok(Subject { binary, patience, environment: Vec::new() })
+    }
+
+    /// The same player with an environment variable set.
+    pub fn with(mut self, name: &str, value: &str) -> Subject {
+        self.environment.push((name.to_string(), value.to_string()));
+        self
+    }
+
+    /// Its file.
+    pub fn binary(&self) -> &Path {
+        &self.binary
+    }
+
+    /// Plays a text, written to it in pieces of the given size.
+    pub fn play(&self, text: &[u8], piece: usize) -> Result<Played, String> {
+        let problem = |error| format!("{}: {error}", self.binary.display());
+        let mut child = Command::new(&self.binary)
+            .envs(self.environment.iter().cloned())
+            .stdin(Stdio::piped())
+            .stdout(Stdio::piped())
+            .stderr(Stdio::null())
+            .spawn()
+            .map_err(problem)?;
+        let (ended, end) = mpsc::channel();
+        let mut input = child.stdin.take().expect("it was piped");
+        let printed = child.stdout.take().expect("it was piped");
+        // No right output is longer; a player that prints on is cut off.
+        let lines = text.iter().filter(|&&byte| byte == b'\n').count();
+        let mut printed = printed.take(100 * (lines as u64 + 2));
+        thread::scope(|scope| {
+            scope.spawn(move || {
+                // A player that stops early may close its input: no fault.
+                for piece in text.chunks(piece.max(1)) {
+                    if input.write_all(piece).is_err() {
+                        break;
+                    }
+                }
+            });
+            let reader = scope.spawn(move || {
+                let mut output = Vec::new();
+                let read = printed.read_to_end(&mut output);
+                drop(printed);
+                let _ = ended.send(());
+                read.map(|_| output)
+            });
+            let in_time = end.recv_timeout(self.patience).is_ok();
+            let ending = end_child(&mut child, in_time).map_err(problem)?;
+            let output = reader.join().expect("the reader does not panic");
+            let output = output.map_err(problem)?;
+            Ok(Played { output, ending })
+        })
+    }
+}
+
+/// Waits for a child that has closed its output; ends one out of time.
+fn end_child(child: &mut Child, in_time: bool) -> std::io::Result<Ending> {
+    if !in_time {
+        child.kill()?;
+        child.wait()?;
+        return Ok(Ending::OutOfTime);
+    }
+    Ok(Ending::of(child.wait()?))
+}
