@@ -13,10 +13,9 @@ ghost use Rattle.rig.specs.Limits.{siteLimit, numberLimit};
 ghost use Rattle.model.specs.Desk.{withSite, withoutEntries};
 ghost use Rattle.model.specs.Ask.{requests, asked};
 ghost use Rattle.model.specs.Leave.{handOn, handOns, left};
-ghost use Rattle.mail.specs.Did.{Did};
+ghost use Rattle.mail.specs.Did.{Did, Sent};
 ghost use Rattle.asking.specs.Asks.{AskFits, LeaveFits};
 ghost use Rattle.asking.specs.Turns.{requestIf, handOnIf};
-ghost use Rattle.mail.specs.Did.{Sent};
 
 // The desk with no entries, and with the given site.
 fn cleared(d: Desk, site: Site) -> Desk

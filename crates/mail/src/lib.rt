@@ -45,7 +45,7 @@ pub fn message(r: Row) -> Message
 // An inner call: one message more, behind the first `count`.
 pub fn append(list: &mut [Row], count: usize, m: Message) -> usize
     requires { ⌜ count < length (now list) ⌝ }
-    ensures { λ r. ⌜ (r ≡ count + 1) × (take r (now (list .exit)) ≡ take count (now (list .entry)) ++ (rowOf m ∷ [])) ⌝ }
+    ensures { λ r. ⌜ (r ≡ count + 1) × (take r (now (list .exit)) ≡ take count (now (list .entry)) ++ (rowOf m ∷ [])) × (drop r (now (list .exit)) ≡ drop r (now (list .entry))) ⌝ }
 {
     list[count] = row(m);
     count + 1

@@ -7,8 +7,7 @@ use mathlib.Core.List.{List, [], _∷_, _++_, map}
 use native.Mathlib.Omega.{arith}
 use native.Mathlib.Numerals.{add-one}
 use lib.Dec.{eqb, leb, ltb}
-use lib.ListN.{length}
-use lib.Seq.{length-take-le}
+use lib.ListN.{length, length-take}
 use borrow.Author.Tests.{eqb-true, eqb-false, eq-eqb, ne-eqb, leb-true, leb-false, le-leb}
 use Rattle.basics.specs.Helpers.{all}
 use Rattle.basics.proofs.Basics.{by-bool, clash, and-split, all-of, or-second}
@@ -255,7 +254,7 @@ module _ (n : ℕ) (l : List ℕ) (a : Accepted n l) (past : (k : ℕ) → n < k
   unfolding wellShaped
   well-shaped = rw (
     tables-shaped,
-    le-leb (length (underWay s)) messageLimit (rw (length-take-le (s .count) (s .list) (rw (r .long) (r .few))) (r .few)),
+    le-leb (length (underWay s)) messageLimit (rw (length-take (s .count) (s .list)) (omega (arith, r .few))),
     messages-shaped (underWay s) (r .plain) every-fits (below .underWay),
   )
 
@@ -329,9 +328,9 @@ module _ (n : ℕ) (l : List ℕ) (a : Accepted n l) (past : (k : ℕ) → n < k
 -- Said of every run
 
 always : (P : Stored → Type 0) → ((n : ℕ) (l : List ℕ) → Accepted n l → ((k : ℕ) → n < k → at 0 l k ≡ 0) → (s : Stored) → Reached n l s → P s) → Always P
-always P h n sets list es e long =
+always P h n sets list es e =
     let a = accepts n sets e in
-    h n (keptSets n sets) (kept-accepted n sets a) (kept-past n sets a) _ (run-of n sets list es e long)
+    h n (keptSets n sets) (kept-accepted n sets a) (kept-past n sets a) _ (run-of n sets list es e)
 
 pub always-shaped : AlwaysShaped
 unfolding AlwaysShaped

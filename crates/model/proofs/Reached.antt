@@ -53,7 +53,6 @@ pub record Reached (n : ℕ) (l : List ℕ) (s : Stored) : Type 0 where
   pub size : sizeOf (s .tables) ≡ n
   pub sets : s .tables .rig .sets ≡ l
   pub sized : Sized (s .tables)
-  pub long : length (s .list) ≡ messageLimit
   pub few : s .count ≤ messageLimit
   pub bounded : s .tables .rig .accepted ≤ eventLimit
   pub plain : AllPlain (underWay s)
@@ -199,7 +198,6 @@ module _ (n : ℕ) (l : List ℕ) where
         size = r .size;
         sets = r .sets;
         sized = sized-desk (s .tables) k (e .desk) _ (r .sized) (v .sized) (v .low) (v .high);
-        long = rw (length-append, length-replicate) (omega arith);
         few = len;
         bounded = omega (arith, free .1);
         plain = rw seam (both rest (e .sent) (v .rests) (v .sends));

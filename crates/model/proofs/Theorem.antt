@@ -70,24 +70,23 @@ fresh-same n sets =
     (fun-ext (λ j. row-path (freshTables n sets) j freeArbiter (λ k. 0) (λ k. 0) (λ k. 0) (λ k. 0) (at-same freeArbiter siteLimit j) (λ k. blank-cell j k) (λ k. blank-cell k j) (λ k. blank-cell k j) (λ k. blank-cell k j)))
     refl
 
-fresh-reached : (n : ℕ) (sets : List ℕ) (list : List Message) → Accepted n sets → length list ≡ messageLimit → Reached n (keptSets n sets) (fresh n sets list)
+fresh-reached : (n : ℕ) (sets : List ℕ) (list : List Message) → Accepted n sets → Reached n (keptSets n sets) (fresh n sets list)
 unfolding fresh freshTables freshRig R.run All
-fresh-reached n sets list a h = record {
+fresh-reached n sets list a = record {
   events = [];
   same = fresh-same n sets;
   counted = refl;
   size = refl;
   sets = refl;
   sized = record { size = a .high; sets = kept-accepted n sets a .long; sites = refl; arbiters = refl; held = square-blank; heir = square-blank; inquired = square-blank; queued = square-blank };
-  long = h;
   few = omega arith;
   bounded = omega arith;
   plain = tt;
 }
 
 -- a run of the definitions, and the family of its sets
-pub run-of : (n : ℕ) (sets : List ℕ) (list : List Message) (es : List Event) → setupCode n sets ≡ 0 → length list ≡ messageLimit → Reached n (keptSets n sets) (run (fresh n sets list) es)
-run-of n sets list es e h = run-reached n (keptSets n sets) es (fresh n sets list) (fresh-reached n sets list (accepts n sets e) h)
+pub run-of : (n : ℕ) (sets : List ℕ) (list : List Message) (es : List Event) → setupCode n sets ≡ 0 → Reached n (keptSets n sets) (run (fresh n sets list) es)
+run-of n sets list es e = run-reached n (keptSets n sets) es (fresh n sets list) (fresh-reached n sets list (accepts n sets e))
 
 -- The counts of the definitions are the machine's
 
@@ -193,6 +192,6 @@ module _ (n : ℕ) (l : List ℕ) (a : Accepted n l) (past : (k : ℕ) → n < k
 -- DEMAND 3
 pub demand3 : Demand3
 unfolding Demand3
-demand3 n sets list es e h =
+demand3 n sets list es e =
     let a = accepts n sets e in
-    sound n (keptSets n sets) (kept-accepted n sets a) (kept-past n sets a) (run (fresh n sets list) es) (run-of n sets list es e h)
+    sound n (keptSets n sets) (kept-accepted n sets a) (kept-past n sets a) (run (fresh n sets list) es) (run-of n sets list es e)

@@ -4,10 +4,9 @@ use mathlib.Core.Path.{_≡_}
 use mathlib.Core.Bool.{Bool, true, _&&_, _||_, cond}
 use mathlib.Core.List.{List, [], _∷_}
 use lib.Dec.{eqb, leb}
-use lib.ListN.{length}
 use Rattle.rig.specs.declared.Event.{Event}
 use Rattle.rig.specs.declared.Message.{Message}
-use Rattle.rig.specs.Limits.{messageLimit, eventLimit}
+use Rattle.rig.specs.Limits.{eventLimit}
 use Rattle.rig.specs.Messages.{REPLY, RELEASE, YIELD}
 use Rattle.model.specs.Setup.{setupCode}
 use Rattle.model.specs.State.{Tables, seqIn, siteOf, modeOf, arbiterOf, heldOf, inquiredOf, queuedOf, deskOf}
@@ -21,7 +20,7 @@ use Rattle.model.specs.Run.{fresh, run}
 abbrev pub Always : (Stored → Type 0) → Type 0
 Always P =
     (n : ℕ) (sets : List ℕ) (list : List Message) (es : List Event) →
-    setupCode n sets ≡ 0 → length list ≡ messageLimit → P (run (fresh n sets list) es)
+    setupCode n sets ≡ 0 → P (run (fresh n sets list) es)
 
 -- Every state of a run is well shaped, so no event of a run is refused with 10.
 unfoldable pub AlwaysShaped : Type 0

@@ -4,10 +4,8 @@ use mathlib.Core.Path.{_≡_}
 use mathlib.Core.Bool.{Bool, not, _&&_, _||_, cond}
 use mathlib.Core.List.{List, [], _∷_}
 use lib.Dec.{eqb}
-use lib.ListN.{length}
 use Rattle.rig.specs.declared.Message.{Message}
 use Rattle.rig.specs.declared.Event.{Event}
-use Rattle.rig.specs.Limits.{messageLimit}
 use Rattle.rig.specs.Messages.{REPLY, RELEASE, YIELD}
 use Rattle.basics.specs.Helpers.{count, tally}
 use Rattle.model.specs.Setup.{setupCode}
@@ -60,8 +58,8 @@ pub record Sound (s : Stored) : Type 0 where
   pub notStuck : stuck s ≡ Bool.false
 
 -- Demand 3: "For EVERY family that setup passes and EVERY list of asks, leaves and deliveries, refused ones included", "A run without
--- events counts too."
+-- events counts too." The lent list is any list: where it is not 1,024 entries long, every event is refused with 13.
 unfoldable pub Demand3 : Type 0
 Demand3 =
     (n : ℕ) (sets : List ℕ) (list : List Message) (es : List Event) →
-    setupCode n sets ≡ 0 → length list ≡ messageLimit → Sound (run (fresh n sets list) es)
+    setupCode n sets ≡ 0 → Sound (run (fresh n sets list) es)

@@ -22,7 +22,7 @@ returns : tie.Need-returns
 unfolding asked
 returns c =
     let s = c .before .before .request-members .ensures in
-    record { desk = c .cleared .ensures; count = s .count; sent = s .sent }
+    record { desk = c .cleared .ensures; count = s .count; sent = s .sent; rest = s .rest }
 
 pub ask-spec : {M : Type 1} → statement M
 ask-spec =

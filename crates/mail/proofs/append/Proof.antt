@@ -1,8 +1,10 @@
 -- `append`: one row stored behind the rows that count.
 use mathlib.Core.Path.{refl}
 use native.Mathlib.Numerals.{add-one}
+use denote.Ref.{now}
 use lib.Seq.{take-suc-set}
 use borrow.Author.Needs.{needs}
+use Rattle.mail.proofs.Sending.{behind-stored}
 use Rattle.mail.proofs.append.Statement.{statement}
 use Rattle.mail.proofs.append.Tie as tie
 
@@ -22,7 +24,7 @@ same-length : tie.Need-same-length
 same-length c = search needs
 
 returns : tie.Need-returns
-returns c = (refl, rw (c .row .ensures, add-one) (take-suc-set _ _ _ (c .before .pre)))
+returns c = (refl, rw (c .row .ensures, add-one) (take-suc-set _ _ _ (c .before .pre)), behind-stored (now (c .before .args .list)) (c .before .args .count) (c .row .result))
 
 pub append-spec : {M : Type 1} → statement M
 append-spec =

@@ -56,6 +56,7 @@ returns c =
       desk = rw (c .failed-set .ensures, put-write (d .held) _ _ low, put-write (d .heir) _ _ low, put-write (d .inquired) _ _ low);
       count = e .0;
       sent = rw (at-read 0 (d .held) _ low) (rw (c .before .before .before .yielding .ensures) at (e .1));
+      rest = e .2;
     }
 
 pub yield-member-spec : {M : Type 1} → statement M
