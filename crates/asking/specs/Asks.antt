@@ -15,5 +15,5 @@ pub record AskFits (d : Desk) (n : ℕ) (rows : List (List ℕ)) : Type 0 where
 -- a leave: at most 31 sites, 1 more on a number held does not overflow, and room for 62 messages behind the first n
 pub record LeaveFits (d : Desk) (n : ℕ) (rows : List (List ℕ)) : Type 0 where
   pub size : d .size ≤ siteLimit
-  pub held : (j : ℕ) → heldFor d j ≤ numberLimit
+  pub held : (j : ℕ) → 1 ≤ j → j ≤ siteLimit → heldFor d j ≤ numberLimit
   pub room : n + 62 ≤ length rows

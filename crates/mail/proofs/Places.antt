@@ -73,9 +73,6 @@ module _ (a b : ℕ) where
       let g : i < n = omega arith in
       (g, omega arith, s .1 ∙ rw (getD-take n rows i [] g))
 
-  pub found-taken-off : (n : ℕ) (rows : List (List ℕ)) (i : ℕ) → foundIn a b (take n rows) ≡ At i → n ≤ length rows
-      → map messageOf (take (n - 1) (takenOut n i rows)) ≡ withoutFirst (between a b) (map messageOf (take n rows))
-  found-taken-off n rows i h f =
-      let s = found-stands (take n rows) i h in
-      let l = length-take n rows in
-      ap (λ (r : List (List ℕ)). map messageOf r) (taken-out-rest n i rows (omega arith) f) ∙ s .2
+  pub found-stays : (n : ℕ) (rows : List (List ℕ)) (i : ℕ) → foundIn a b (take n rows) ≡ At i
+      → map messageOf (without i (take n rows)) ≡ withoutFirst (between a b) (map messageOf (take n rows))
+  found-stays n rows i h = found-stands (take n rows) i h .2

@@ -18,3 +18,4 @@ pub mod Plain
 pub mod Reached
 pub mod Theorem
 pub mod Always
+pub mod OfRun

@@ -61,7 +61,7 @@ system-same : (t : Tables) (n : ℕ) (l : List ℕ) → sizeOf t ≡ n → t .ri
 system-same t n l p q = λ i. record { size = p i; sets = λ k j. member (at 0 (q i) k) j; comesBefore = before }
 
 -- what a code of 0 says of the list and of the count of events
-room : (t : Tables) (e : Effect) (rest : List Message) → limitCode t e rest ≡ 0 → (length rest + length (e .sent) ≤ messageLimit) × (t .rig .accepted < eventLimit)
+pub room : (t : Tables) (e : Effect) (rest : List Message) → limitCode t e rest ≡ 0 → (length rest + length (e .sent) ≤ messageLimit) × (t .rig .accepted < eventLimit)
 unfolding limitCode
 room t e rest h =
     by-bool (leb eventLimit (t .rig .accepted) || not (numbersFit e))

@@ -21,6 +21,15 @@ unfoldable pub run : Stored → List Event → Stored
 run s [] = s
 run s (e ∷ es) = run (event s e .next) es
 
+-- a state of a run of sets that setup passes
+pub record OfRun (s : Stored) : Type 0 where
+  pub size : ℕ
+  pub sets : List ℕ
+  pub list : List Message
+  pub events : List Event
+  pub passed : setupCode size sets ≡ 0
+  pub same : s ≡ run (fresh size sets list) events
+
 -- "Places of arbiter j's permission, counted together: free, if j has no holder;"
 unfoldable pub freeAt : Tables → ℕ → ℕ
 freeAt t j = cond (eqb (arbiterOf t j .holder) 0) 1 0

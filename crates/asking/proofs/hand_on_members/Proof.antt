@@ -45,7 +45,7 @@ hand-on-member-requires c κs =
     let s = c .before .before .before .before .before in
     let h = handOns-short (s .args .t1) (l .i) in
     let n = l .inv .0 .count in
-    (omega arith, s .pre .held (suc (l .i)), omega arith)
+    (omega arith, s .pre .held (suc (l .i)) (omega arith) (omega arith), omega arith)
 
 add-i : tie.Need-add-i Inv-loop μ-loop
 add-i c = search needs

@@ -1,0 +1,40 @@
+-- The states of a run: the next one, and what holds of each.
+use Prim.Native.Nat.{ℕ, _≤_}
+use mathlib.Core.Path.{_≡_, refl, sym, ap, _∙_}
+use mathlib.Core.Bool.{true}
+use mathlib.Core.List.{List, [], _∷_, _++_}
+use Rattle.rig.specs.declared.Event.{Event}
+use Rattle.rig.specs.Limits.{messageLimit}
+use Rattle.model.specs.Shape.{wellShaped}
+use Rattle.model.specs.Event.{Stored, underWay, event}
+use Rattle.model.specs.Run.{fresh, run, OfRun, Sound, Demand3}
+use Rattle.model.specs.Always.{AlwaysShaped}
+use Rattle.model.proofs.Theorem.{run-of, demand3}
+use Rattle.model.proofs.Always.{always-shaped}
+
+run-more : (s : Stored) (es : List Event) (e : Event) → run s (es ++ e ∷ []) ≡ event (run s es) e .next
+unfolding run
+run-more s [] e = refl
+run-more s (x ∷ es) e = run-more (event s x .next) es e
+
+module _ {s : Stored} (r : OfRun s) where
+  pub next-of-run : (e : Event) → OfRun (event s e .next)
+  next-of-run e = record {
+    size = r .size;
+    sets = r .sets;
+    list = r .list;
+    events = r .events ++ e ∷ [];
+    passed = r .passed;
+    same = ap (λ (x : Stored). event x e .next) (r .same) ∙ sym (run-more (fresh (r .size) (r .sets) (r .list)) (r .events) e);
+  }
+
+  pub run-shaped : wellShaped (s .tables) (underWay s) ≡ true
+  unfolding AlwaysShaped
+  run-shaped = rw (r .same) (always-shaped (r .size) (r .sets) (r .list) (r .events) (r .passed))
+
+  pub run-few : s .count ≤ messageLimit
+  run-few = rw (r .same) (run-of (r .size) (r .sets) (r .list) (r .events) (r .passed) .few)
+
+  pub run-sound : Sound s
+  unfolding Demand3
+  run-sound = rw (r .same) (demand3 (r .size) (r .sets) (r .list) (r .events) (r .passed))
