@@ -11,7 +11,7 @@ use Rattle.grammar.specs.declared.Line.the-variants.{Sites, Set, Ask, Le
 use Rattle.grammar.specs.declared.Number.{Number}
 use Rattle.grammar.specs.declared.Number.the-variants.{Of, Nothing}
 
--- "Numbers are 0 to 999 without leading zeros."
+-- "Numbers are 0 to 999 without leading zeros." The digits are bytes 48 to 57.
 abbrev pub isDigit : ℕ → Bool
 isDigit b = leb 48 b && leb b 57
 
@@ -19,13 +19,13 @@ unfoldable pub allDigits : List ℕ → Bool
 allDigits [] = true
 allDigits (b ∷ bs) = isDigit b && allDigits bs
 
--- one byte, or more of which the first is not `0`
+-- one byte, or more of which the first is not 48
 unfoldable pub noLeadingZero : List ℕ → Bool
 noLeadingZero [] = false
 noLeadingZero (b ∷ []) = true
 noLeadingZero (b ∷ c ∷ bs) = not (eqb b 48)
 
--- the value of the digits of n with these behind them
+-- the value of the digits of n followed by these
 unfoldable pub value : ℕ → List ℕ → ℕ
 value n [] = n
 value n (b ∷ bs) = value (n * 10 + (b - 48)) bs
@@ -33,7 +33,8 @@ value n (b ∷ bs) = value (n * 10 + (b - 48)) bs
 unfoldable pub number : List ℕ → Number
 number bs = cond (noLeadingZero bs && (allDigits bs && leb (value 0 bs) 999)) (Of (value 0 bs)) Nothing
 
--- "A list is a number, or a number, a comma and a list": the parts between the commas (byte 44), each a number
+-- "A list is a number, or a number, a comma and a list": the parts that the commas (byte 44) separate, each a number.
+-- `longer b` puts the byte b in front of the first part.
 unfoldable pub longer : ℕ → List (List ℕ) → List (List ℕ)
 longer b [] = []
 longer b (p ∷ ps) = (b ∷ p) ∷ ps
@@ -42,6 +43,7 @@ unfoldable pub parts : List ℕ → List (List ℕ)
 parts [] = [] ∷ []
 parts (b ∷ bs) = cond (eqb b 44) ([] ∷ parts bs) (longer b (parts bs))
 
+-- a number in front of those of a list; none where either is missing
 unfoldable pub before : Number → Option (List ℕ) → Option (List ℕ)
 before (Of n) (some ns) = some (n ∷ ns)
 before (Of n) none = none
@@ -66,12 +68,12 @@ ascends (a ∷ b ∷ ns) = ltb a b && ascends (b ∷ ns)
 unfoldable pub siteBit : ℕ → ℕ
 siteBit n = cond (leb 1 n && leb n 31) (2 ^ (n - 1)) (2 ^ 63)
 
--- the set with the sites of a list added
+-- the set with the numbers of a list added
 unfoldable pub withSites : ℕ → List ℕ → ℕ
 withSites set [] = set
 withSites set (n ∷ ns) = withSites (bitOr set (siteBit n)) ns
 
--- what stands behind `set=`; behind a word that takes one number; behind `move=`
+-- what the numbers say behind `set=`; behind a word that takes exactly one; behind `move=`, which takes exactly two
 unfoldable pub setLine : Option (List ℕ) → Line
 setLine none = Malformed
 setLine (some ns) = cond (ascends ns) (Set (withSites 0 ns)) Malformed
@@ -105,11 +107,13 @@ leaveWord = 108 ∷ 101 ∷ 97 ∷ 118 ∷ 101 ∷ 61 ∷ []
 abbrev pub moveWord : List ℕ
 moveWord = 109 ∷ 111 ∷ 118 ∷ 101 ∷ 61 ∷ []
 
+-- whether a line starts with a word
 unfoldable pub starts : List ℕ → List ℕ → Bool
 starts [] line = true
 starts (w ∷ ws) [] = false
 starts (w ∷ ws) (b ∷ bs) = eqb b w && starts ws bs
 
+-- "`sites=`, then N lines `set=`, then events `ask=s`, `leave=s`, `move=a,b`": one of the five words, and what is behind it
 unfoldable pub form : List ℕ → Line
 form line =
     cond (starts sitesWord line) (one Sites (numbers (drop 6 line)))

@@ -5,7 +5,7 @@ use mathlib.Core.List.{List, [], _∷_, _++_}
 use lib.Dec.{ltb}
 use lib.ListN.{length, drop}
 
--- the digits of n below 10 ^ k, the most significant first, without leading zeros; `0` is byte 48
+-- a number n below 10 ^ k in decimal: the most significant digit first, no leading zeros; digit d is byte 48 + d
 unfoldable pub digits : ℕ → ℕ → List ℕ
 digits zero n = []
 digits (suc k) n = cond (ltb n 10) [] (digits k (n / 10)) ++ ((48 + n % 10) ∷ [])
