@@ -2,8 +2,9 @@
 use Prim.Native.Nat.{ℕ, zero, suc, _+_, _/_, _%_}
 use mathlib.Core.Bool.{cond}
 use mathlib.Core.List.{List, [], _∷_, _++_}
+use mathlib.Core.Path.{_≡_}
 use lib.Dec.{ltb}
-use lib.ListN.{length, drop}
+use lib.ListN.{length, take, drop}
 
 -- a number n below 10 ^ k in decimal: the most significant digit first, no leading zeros; digit d is byte 48 + d
 unfoldable pub digits : ℕ → ℕ → List ℕ
@@ -51,6 +52,8 @@ stepLine step code inside waiting flying =
 unfoldable pub stopLine : ℕ → ℕ → List ℕ
 stopLine code line = (stopWord ++ decimal code) ++ ((lineWord ++ decimal line) ++ (10 ∷ []))
 
--- a page with these bytes at its start, and the rest as it came
-abbrev pub printed : List ℕ → List ℕ → List ℕ
-printed page bytes = bytes ++ drop (length bytes) page
+-- the line stands at the start of the page, r bytes long, and the bytes behind it are as they came
+pub record Printed (line page after : List ℕ) (r : ℕ) : Type 0 where
+  pub count : r ≡ length line
+  pub text : take r after ≡ line
+  pub rest : drop r after ≡ drop r page

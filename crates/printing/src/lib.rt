@@ -3,7 +3,7 @@ ghost use Prim.Native.Nat.{_+_, _%_, _≤_};
 ghost use mathlib.Core.List.{_++_};
 ghost use mathlib.Core.Path.{_≡_};
 ghost use lib.ListN.{length};
-ghost use Rattle.printing.specs.Printing.{decimal, stepLine, stopLine, printed};
+ghost use Rattle.printing.specs.Printing.{decimal, stepLine, stopLine, Printed};
 ghost use Rattle.printing.specs.Wrote.{Wrote};
 
 // A page holds the longest line: with five numbers of 20 digits it has 137 bytes.
@@ -76,7 +76,7 @@ pub fn step_line(
     waiting: u64,
     flying: u64,
 ) -> usize
-    ensures { λ r. ⌜ (r ≡ length (stepLine step code inside waiting flying)) × (now (page .exit) ≡ printed (now (page .entry)) (stepLine step code inside waiting flying)) ⌝ }
+    ensures { λ r. ⌜ Printed (stepLine step code inside waiting flying) (now (page .entry)) (now (page .exit)) r ⌝ }
 {
     let after_step = put_field(page, 0, b"step=", step);
     let after_code = put_field(page, after_step, b" code=", code);
@@ -88,7 +88,7 @@ pub fn step_line(
 
 // The line that ends a run; answers its length.
 pub fn stop_line(page: &mut Page, code: u64, line: u64) -> usize
-    ensures { λ r. ⌜ (r ≡ length (stopLine code line)) × (now (page .exit) ≡ printed (now (page .entry)) (stopLine code line)) ⌝ }
+    ensures { λ r. ⌜ Printed (stopLine code line) (now (page .entry)) (now (page .exit)) r ⌝ }
 {
     let after_code = put_field(page, 0, b"stop=", code);
     let after_line = put_field(page, after_code, b" line=", line);
