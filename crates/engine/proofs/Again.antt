@@ -13,8 +13,9 @@ use Rattle.mail.specs.Rows.{messageOf}
 use Rattle.mail.specs.Places.{cleared}
 use Rattle.accepting.specs.declared.Answer.{Answer}
 use Rattle.accepting.specs.Whole.{answered}
-use Rattle.engine.specs.Asks.{Ready, Played, Stepped}
-use Rattle.engine.proofs.Answers.{tidied-blank}
+use Rattle.attempts.specs.Asks.{Played}
+use Rattle.engine.specs.Stepped.{Stepped}
+use Rattle.attempts.proofs.Answers.{tidied-blank}
 
 module _ (s : M.Stored) (e : Event) (before : List (List ℕ)) (r : Answer) (held heir inquired queued after : List (List ℕ)) where
   pub stepped : Played s e before r held heir inquired queued after → cleared (s .count) before ≡ before → length after ≡ messageLimit

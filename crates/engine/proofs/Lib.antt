@@ -1,4 +1,2 @@
 -- Laws that belong to no one function.
-pub mod Shaped
-pub mod Answers
 pub mod Again

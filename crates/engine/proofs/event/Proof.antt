@@ -11,7 +11,7 @@ use Rattle.model.specs.Shape.{wellShaped}
 use Rattle.model.specs.Event.{underWay}
 use Rattle.mail.specs.Rows.{messageOf}
 use Rattle.accepting.specs.Whole.{stored, answered}
-use Rattle.engine.proofs.Answers.{under-way, wrong-length, misshapen, tidied-accepted, tidied-refused}
+use Rattle.attempts.proofs.Answers.{under-way, wrong-length, misshapen, tidied-accepted, tidied-refused}
 use Rattle.engine.proofs.event.Statement.{statement}
 use Rattle.engine.proofs.event.Tie as tie
 use Rattle.engine.proofs.play.Reads as play-reads

@@ -8,7 +8,6 @@ use Rattle.rig.specs.declared.Event.{Event}
 use Rattle.rig.specs.Limits.{messageLimit}
 use Rattle.model.specs.Shape.{wellShaped}
 use Rattle.model.specs.Event as M
-use Rattle.model.specs.Run.{OfRun}
 use Rattle.mail.specs.Places.{cleared}
 use Rattle.accepting.specs.declared.Answer.{Answer}
 use Rattle.accepting.specs.Whole.{answered, tidied}
@@ -23,8 +22,3 @@ pub record Ready (s : M.Stored) : Type 0 where
 pub record Played (s : M.Stored) (e : Event) (before : List (List ℕ)) (r : Answer) (held heir inquired queued after : List (List ℕ)) : Type 0 where
   pub answer : answered r held heir inquired queued (tidied r after) ≡ M.event s e
   pub blank : cleared (s .count) before ≡ before → cleared (r .count) after ≡ after
-
--- the event's answer; and the next state of a run is a state of that run, which no event refuses with 13 or 10
-pub record Stepped (s : M.Stored) (e : Event) (a : M.Answer) : Type 0 where
-  pub answer : a ≡ M.event s e
-  pub again : OfRun s → OfRun (a .next) × Ready (a .next)

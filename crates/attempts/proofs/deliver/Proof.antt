@@ -16,14 +16,14 @@ use Rattle.model.proofs.Delivered.{first-shaped}
 use Rattle.mail.specs.Rows.{messageOf}
 use Rattle.mail.proofs.Places.{found-at}
 use Rattle.accepting.specs.Whole.{stored}
-use Rattle.engine.proofs.Shaped.{size, listed, grant, sender, about-arbiter, about-high}
-use Rattle.engine.proofs.Answers.{did-effect, did-fits, found-none, found-first, found-rest, same-judged, unnamed, none-under-way, delivers}
-use Rattle.engine.proofs.deliver.Statement.{statement}
-use Rattle.engine.proofs.deliver.Tie as tie
+use Rattle.attempts.proofs.Shaped.{size, listed, grant, sender, about-arbiter, about-high}
+use Rattle.attempts.proofs.Answers.{did-effect, did-fits, found-none, found-first, found-rest, same-judged, unnamed, none-under-way, delivers}
+use Rattle.attempts.proofs.deliver.Statement.{statement}
+use Rattle.attempts.proofs.deliver.Tie as tie
 use Rattle.accepting.proofs.conclude.Reads as conclude-reads
 use Rattle.delivery.proofs.deliver.Reads as deliver-reads
 use Rattle.desks.proofs.desk.Reads as desk-reads
-use Rattle.engine.proofs.is_site.Reads as is-site-reads
+use Rattle.attempts.proofs.is_site.Reads as is-site-reads
 use Rattle.mail.proofs.first.Reads as first-reads
 use Rattle.mail.proofs.message.Reads as message-reads
 

@@ -1,7 +1,7 @@
 -- `is_site`: the two tests.
 use borrow.Author.Tests.{le-leb, lt-leb}
-use Rattle.engine.proofs.is_site.Statement.{statement}
-use Rattle.engine.proofs.is_site.Tie as tie
+use Rattle.attempts.proofs.is_site.Statement.{statement}
+use Rattle.attempts.proofs.is_site.Tie as tie
 
 returns : tie.Need-returns
 returns c = rw (le-leb 1 (c .before .args .k) (c .if1 .taken))

@@ -1,0 +1,196 @@
+// The three events, each on a well-shaped state: refused with 4, 5, 6 or 7, or judged by the limits and stored.
+use accepting::Answer;
+use accepting::conclude;
+use desks::desk;
+use mail::Found;
+use mail::Row;
+use mail::first;
+use mail::message;
+use rig::Mode;
+use rig::Rig;
+use rig::Table;
+ghost use mathlib.Core.Path.{_≡_};
+ghost use mathlib.Core.Bool.{_&&_};
+ghost use lib.Dec.{leb};
+ghost use Rattle.rig.specs.declared.Event.the-variants.{Ask, Leave, Deliver};
+ghost use Rattle.model.specs.State.{isResting, isInside};
+ghost use Rattle.accepting.specs.Whole.{stored};
+ghost use Rattle.attempts.specs.Asks.{Ready, Played};
+
+// Whether k is a site of a rig of that size.
+fn is_site(size: u64, k: u64) -> bool
+    ensures { λ r. ⌜ r ≡ (leb 1 k && leb k size) ⌝ }
+{
+    if k >= 1 { k <= size } else { false }
+}
+
+fn is_resting(m: Mode) -> bool
+    ensures { λ r. ⌜ r ≡ isResting m ⌝ }
+{
+    match m {
+        Mode::Rest => true,
+        Mode::Waiting { seq, failed } => false,
+        Mode::Inside => false,
+    }
+}
+
+fn is_inside(m: Mode) -> bool
+    ensures { λ r. ⌜ r ≡ isInside m ⌝ }
+{
+    match m {
+        Mode::Rest => false,
+        Mode::Waiting { seq, failed } => false,
+        Mode::Inside => true,
+    }
+}
+
+// An inner call: site s asks.
+pub fn ask(
+    rig: Rig,
+    held: &mut Table,
+    heir: &mut Table,
+    inquired: &mut Table,
+    queued: &mut Table,
+    list: &mut [Row],
+    count: usize,
+    s: u64,
+) -> Answer
+    requires { ⌜ Ready (stored rig (now held) (now heir) (now inquired) (now queued) (now list) count) ⌝ }
+    ensures { λ r. ⌜ Played (stored rig (now (held .entry)) (now (heir .entry)) (now (inquired .entry)) (now (queued .entry)) (now (list .entry)) count) (Ask s) (now (list .entry)) r (now (held .exit)) (now (heir .exit)) (now (inquired .exit)) (now (queued .exit)) (now (list .exit)) ⌝ }
+{
+    if !is_site(rig.size, s) {
+        return Answer {
+            code: 4,
+            rig: rig,
+            count: count,
+        };
+    }
+    let d = desk(rig, held, heir, inquired, queued, s);
+    let site = d.site;
+    let mode = site.mode;
+    if !is_resting(mode) {
+        return Answer {
+            code: 5,
+            rig: rig,
+            count: count,
+        };
+    }
+    let mut out = [[0; 5]; 64];
+    let a = asking::ask(d, &mut out, 0);
+    conclude(
+        rig,
+        held,
+        heir,
+        inquired,
+        queued,
+        list,
+        count,
+        count,
+        s,
+        a,
+        &out,
+    )
+}
+
+// An inner call: site s leaves.
+pub fn leave(
+    rig: Rig,
+    held: &mut Table,
+    heir: &mut Table,
+    inquired: &mut Table,
+    queued: &mut Table,
+    list: &mut [Row],
+    count: usize,
+    s: u64,
+) -> Answer
+    requires { ⌜ Ready (stored rig (now held) (now heir) (now inquired) (now queued) (now list) count) ⌝ }
+    ensures { λ r. ⌜ Played (stored rig (now (held .entry)) (now (heir .entry)) (now (inquired .entry)) (now (queued .entry)) (now (list .entry)) count) (Leave s) (now (list .entry)) r (now (held .exit)) (now (heir .exit)) (now (inquired .exit)) (now (queued .exit)) (now (list .exit)) ⌝ }
+{
+    if !is_site(rig.size, s) {
+        return Answer {
+            code: 4,
+            rig: rig,
+            count: count,
+        };
+    }
+    let d = desk(rig, held, heir, inquired, queued, s);
+    let site = d.site;
+    let mode = site.mode;
+    if !is_inside(mode) {
+        return Answer {
+            code: 6,
+            rig: rig,
+            count: count,
+        };
+    }
+    let mut out = [[0; 5]; 64];
+    let a = asking::leave(d, &mut out, 0);
+    conclude(
+        rig,
+        held,
+        heir,
+        inquired,
+        queued,
+        list,
+        count,
+        count,
+        s,
+        a,
+        &out,
+    )
+}
+
+// An inner call: the first message from a to b is delivered.
+pub fn deliver(
+    rig: Rig,
+    held: &mut Table,
+    heir: &mut Table,
+    inquired: &mut Table,
+    queued: &mut Table,
+    list: &mut [Row],
+    count: usize,
+    a: u64,
+    b: u64,
+) -> Answer
+    requires { ⌜ Ready (stored rig (now held) (now heir) (now inquired) (now queued) (now list) count) ⌝ }
+    ensures { λ r. ⌜ Played (stored rig (now (held .entry)) (now (heir .entry)) (now (inquired .entry)) (now (queued .entry)) (now (list .entry)) count) (Deliver a b) (now (list .entry)) r (now (held .exit)) (now (heir .exit)) (now (inquired .exit)) (now (queued .exit)) (now (list .exit)) ⌝ }
+{
+    if !is_site(rig.size, a) {
+        return Answer {
+            code: 4,
+            rig: rig,
+            count: count,
+        };
+    }
+    if !is_site(rig.size, b) {
+        return Answer {
+            code: 4,
+            rig: rig,
+            count: count,
+        };
+    }
+    let Found::At(place) = first(list, count, a, b) else {
+        return Answer {
+            code: 7,
+            rig: rig,
+            count: count,
+        };
+    };
+    let d = desk(rig, held, heir, inquired, queued, b);
+    let m = message(list[place]);
+    let mut out = [[0; 5]; 64];
+    let done = delivery::deliver(d, m, &mut out, 0);
+    conclude(
+        rig,
+        held,
+        heir,
+        inquired,
+        queued,
+        list,
+        count,
+        place,
+        b,
+        done,
+        &out,
+    )
+}
