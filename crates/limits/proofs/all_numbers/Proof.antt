@@ -17,7 +17,7 @@ use borrow.Author.Needs.{needs}
 use Rattle.limits.proofs.all_numbers.Statement.{statement}
 use Rattle.limits.proofs.all_numbers.Tie as tie
 use Rattle.mail.proofs.message.Reads as message-reads
-use Rattle.shape.proofs.is_number.Reads as is-number-reads
+use Rattle.ranges.proofs.is_number.Reads as is-number-reads
 
 abbrev Inv-loop : tie.InvT-loop
 Inv-loop sent n i₀ i = (i ≤ n) × (allNumbers (map messageOf (take i sent)) ≡ true)

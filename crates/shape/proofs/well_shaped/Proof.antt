@@ -9,7 +9,7 @@ use Rattle.shape.proofs.well_shaped.Tie as tie
 use Rattle.shape.proofs.well_shaped.Reads as reads
 use Rattle.shape.proofs.well_shaped.Lts as lts
 use Rattle.shape.proofs.are_few.Reads as are-few-reads
-use Rattle.shape.proofs.messages_shaped.Reads as messages-shaped-reads
+use Rattle.message_shape.proofs.messages_shaped.Reads as messages-shaped-reads
 use Rattle.shape.proofs.tables_shaped.Reads as tables-shaped-reads
 
 tables-shaped-requires : tie.Need-tables-shaped-requires

@@ -1,0 +1,20 @@
+-- `tied`: the set of the site, and its member.
+use borrow.Author.Needs.{needs}
+use Rattle.members.proofs.tied.Statement.{statement}
+use Rattle.members.proofs.tied.Tie as tie
+use Rattle.members.proofs.tied.Reads as reads
+use Rattle.members.proofs.tied.Lts as lts
+use Rattle.members.proofs.is_member.Reads as is-member-reads
+use Rattle.members.proofs.set_of.Reads as set-of-reads
+
+set-of-requires : tie.Need-set-of-requires
+set-of-requires c κs = search needs
+
+is-member-requires : tie.Need-is-member-requires
+is-member-requires c κs = search needs
+
+returns : tie.Need-returns
+returns c = rw (c .before .set-of .ensures) at (c .is-member .ensures)
+
+pub tied-spec : {M : Type 1} → statement M
+tied-spec = tie.close (tie.spec set-of-requires is-member-requires returns)
