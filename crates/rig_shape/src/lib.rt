@@ -1,5 +1,6 @@
 // Whether a rig is well shaped: its sets, its sites and its arbiters, as model/specs/Shape defines it.
 use members::tied;
+use modes::is_resting;
 use ranges::is_given;
 use ranges::is_number;
 use ranges::is_site;
@@ -12,7 +13,6 @@ ghost use mathlib.Core.Path.{_≡_};
 ghost use Rattle.rig.specs.Limits.{siteLimit};
 ghost use Rattle.basics.specs.Helpers.{all};
 ghost use Rattle.model.specs.Tables.{at};
-ghost use Rattle.model.specs.State.{isResting};
 ghost use Rattle.model.specs.Shape.{modeShaped, setsShaped, sitesShaped, arbitersShaped};
 ghost use Rattle.members.specs.Ties.{tablesOf, tablesFor};
 ghost use Rattle.rig_shape.specs.Parts.{siteFits, holderFits, arbiterFits, emptyPast};
@@ -56,31 +56,21 @@ fn mode_shaped(mode: Mode) -> bool
     }
 }
 
-fn is_resting(mode: Mode) -> bool
-    ensures { λ r. ⌜ r ≡ isResting mode ⌝ }
-{
-    match mode {
-        Mode::Rest => true,
-        Mode::Waiting { seq, failed } => false,
-        Mode::Inside => false,
-    }
-}
-
 // Site k has its fields in range, and is at rest with clock 0 where k is past N.
 fn site_shaped(size: u64, k: u64, site: Site) -> bool
     ensures { λ r. ⌜ r ≡ siteFits size k site ⌝ }
 {
-    let mode = site.mode;
     if is_site(size, k) {
         if !is_number(site.clock) {
             return false;
         }
+        let mode = site.mode;
         return mode_shaped(mode);
     }
     if site.clock != 0 {
         return false;
     }
-    is_resting(mode)
+    is_resting(site)
 }
 
 pub fn sites_shaped(rig: Rig) -> bool

@@ -4,7 +4,7 @@ use borrow.Author.Tests.{eq-eqb, ne-eqb}
 use borrow.Author.Needs.{needs}
 use Rattle.model.proofs.Tables.{at-read, put-write}
 use Rattle.model.specs.Site.{onTransfer}
-use Rattle.site.proofs.Does.{did-only}
+use Rattle.yields.proofs.Does.{did-only}
 use Rattle.site.proofs.on_transfer.Statement.{statement}
 use Rattle.site.proofs.on_transfer.Tie as tie
 

@@ -8,10 +8,10 @@ use lib.ListN.{length}
 use borrow.Author.Needs.{needs}
 use Rattle.model.specs.Site.{yieldedIf, yieldedUpTo}
 use Rattle.mail.specs.Did.{Did}
-use Rattle.site.proofs.Does.{did-only, did-then, up-to-short}
-use Rattle.site.proofs.yield_members.Statement.{statement}
-use Rattle.site.proofs.yield_members.Tie as tie
-use Rattle.site.proofs.yield_if.Reads as yield-if-reads
+use Rattle.yields.proofs.Does.{did-only, did-then, up-to-short}
+use Rattle.yields.proofs.yield_members.Statement.{statement}
+use Rattle.yields.proofs.yield_members.Tie as tie
+use Rattle.yields.proofs.yield_if.Reads as yield-if-reads
 
 abbrev Inv-loop : tie.InvT-loop
 Inv-loop out₀ count a₀ i₀ i-end out a i =

@@ -2,11 +2,11 @@
 use mathlib.Core.Path.{refl, sym, _∙_}
 use borrow.Author.Needs.{needs}
 use Rattle.model.specs.Site.{yieldedIf}
-use Rattle.site.proofs.Does.{did-only}
-use Rattle.site.proofs.yield_if.Statement.{statement}
-use Rattle.site.proofs.yield_if.Tie as tie
+use Rattle.yields.proofs.Does.{did-only}
+use Rattle.yields.proofs.yield_if.Statement.{statement}
+use Rattle.yields.proofs.yield_if.Tie as tie
 use Rattle.entries.proofs.must_yield.Reads as must-yield-reads
-use Rattle.site.proofs.yield_member.Reads as yield-member-reads
+use Rattle.yields.proofs.yield_member.Reads as yield-member-reads
 
 must-yield-requires : tie.Need-must-yield-requires
 must-yield-requires c κs = search needs
