@@ -5,8 +5,7 @@ use mathlib.Core.Bool.{Bool, true, cond}
 use native.Mathlib.Omega.{arith}
 use lib.Dec.{ltb, leb}
 use borrow.Author.Tests.{lt-ltb, le-ltb, lt-leb, leb-true}
-use Rattle.basics.proofs.Basics.{and-split}
-use Rattle.basics.proofs.Basics.{all-at}
+use Rattle.basics.proofs.Basics.{and-split, all-at}
 use Rattle.billiard.specs.Billiard.{above, stepFits, pathFits, pathSite, Location}
 
 module _ (q i j k x : ℕ) (h : stepFits q i j k x ≡ true) where

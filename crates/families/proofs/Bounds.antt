@@ -1,10 +1,9 @@
 -- Bounds of the numbers that the code computes.
-use Prim.Native.Nat.{ℕ, zero, suc, _+_, _-_, _*_, _%_, _^_, _≤_, _<_}
+use Prim.Native.Nat.{ℕ, zero, suc, _+_, _*_, _%_, _^_, _≤_, _<_}
 use mathlib.Core.Path.{_≡_}
 use mathlib.Core.Bool.{Bool, true}
-use native.Mathlib.Nat.{mul-le-mul, mul-le-mul-right, one-mul, mod-eq-of-lt}
+use native.Mathlib.Nat.{mul-le-mul, one-mul, mod-eq-of-lt}
 use native.Mathlib.Omega.{arith}
-use lib.Dec.{eqb}
 use lib.Pow.{pow-lt}
 use Rattle.model.specs.Sets.{setOf}
 use Rattle.basics.proofs.Basics.{by-bool}

@@ -8,6 +8,6 @@ unfoldable pub membersFrom : ℕ → ℕ → List ℕ
 membersFrom t zero = []
 membersFrom t (suc n) = planeEntry 5 (1 + t / 6) (1 + t % 6) ∷ membersFrom (suc t) n
 
--- all of them
+-- the 186 members
 abbrev pub planeTable : List ℕ
 planeTable = membersFrom 0 186

@@ -5,8 +5,6 @@ use borrow.Author.Needs.{needs}
 use Rattle.mail.proofs.Sending.{sent-none}
 use Rattle.asking.proofs.hand_on_member.Statement.{statement}
 use Rattle.asking.proofs.hand_on_member.Tie as tie
-use Rattle.asking.proofs.hand_on.Reads as hand-on-reads
-use Rattle.members.proofs.is_member.Reads as is-member-reads
 
 is-member-requires : tie.Need-is-member-requires
 is-member-requires c κs = search needs

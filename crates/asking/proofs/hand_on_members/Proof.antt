@@ -13,7 +13,6 @@ use Rattle.asking.proofs.Sends.{handOns-short}
 use Rattle.mail.proofs.Sending.{sent-none, sent-more}
 use Rattle.asking.proofs.hand_on_members.Statement.{statement}
 use Rattle.asking.proofs.hand_on_members.Tie as tie
-use Rattle.asking.proofs.hand_on_member.Reads as hand-on-member-reads
 
 abbrev Inv-loop : tie.InvT-loop
 Inv-loop out₀ count d n₀ i₀ i-end out n i =

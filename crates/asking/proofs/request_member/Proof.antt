@@ -4,9 +4,6 @@ use borrow.Author.Needs.{needs}
 use Rattle.mail.proofs.Sending.{sent-none, sent-one}
 use Rattle.asking.proofs.request_member.Statement.{statement}
 use Rattle.asking.proofs.request_member.Tie as tie
-use Rattle.mail.proofs.append.Reads as append-reads
-use Rattle.members.proofs.is_member.Reads as is-member-reads
-use Rattle.rig.proofs.Message.request.Reads as request-reads
 
 is-member-requires : tie.Need-is-member-requires
 is-member-requires c κs = search needs

@@ -12,7 +12,6 @@ use Rattle.asking.proofs.Sends.{requests-short}
 use Rattle.mail.proofs.Sending.{sent-none, sent-more}
 use Rattle.asking.proofs.request_members.Statement.{statement}
 use Rattle.asking.proofs.request_members.Tie as tie
-use Rattle.asking.proofs.request_member.Reads as request-member-reads
 
 abbrev Inv-loop : tie.InvT-loop
 Inv-loop d seq out₀ count n₀ m₀ m-end out n m =

@@ -15,7 +15,6 @@ use Rattle.model.specs.Desk.{has, heldFor}
 use Rattle.model.specs.Site.{allHeld}
 use Rattle.entries.proofs.all_held.Statement.{statement}
 use Rattle.entries.proofs.all_held.Tie as tie
-use Rattle.entries.proofs.outside_or_held.Reads as outside-or-held-reads
 
 abbrev Inv-loop : tie.InvT-loop
 Inv-loop d i₀ i-end i =

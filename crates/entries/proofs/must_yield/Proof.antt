@@ -6,7 +6,6 @@ use Rattle.model.proofs.Tables.{at-read}
 use Rattle.model.specs.Site.{taken, mustYield}
 use Rattle.entries.proofs.must_yield.Statement.{statement}
 use Rattle.entries.proofs.must_yield.Tie as tie
-use Rattle.members.proofs.is_member.Reads as is-member-reads
 
 is-member-requires : tie.Need-is-member-requires
 is-member-requires c κs = search needs

@@ -3,7 +3,6 @@ use mathlib.Core.Path.{sym, _∙_}
 use borrow.Author.Needs.{needs}
 use Rattle.entries.proofs.outside_or_held.Statement.{statement}
 use Rattle.entries.proofs.outside_or_held.Tie as tie
-use Rattle.members.proofs.is_member.Reads as is-member-reads
 
 is-member-requires : tie.Need-is-member-requires
 is-member-requires c κs = search needs

@@ -6,8 +6,6 @@ use Rattle.members.proofs.Members.{member-past, member-bit}
 use borrow.Author.Needs.{needs}
 use Rattle.members.proofs.is_member.Statement.{statement}
 use Rattle.members.proofs.is_member.Tie as tie
-use Rattle.members.proofs.is_member.Reads as reads
-use Rattle.members.proofs.is_member.Lts as lts
 
 returns : tie.Need-returns
 unfolding member

@@ -7,8 +7,6 @@ use Rattle.model.proofs.Tables.{at-read, at-past}
 use borrow.Author.Needs.{needs}
 use Rattle.members.proofs.set_of.Statement.{statement}
 use Rattle.members.proofs.set_of.Tie as tie
-use Rattle.members.proofs.set_of.Reads as reads
-use Rattle.members.proofs.set_of.Lts as lts
 
 returns : tie.Need-returns
 unfolding at

@@ -2,10 +2,6 @@
 use borrow.Author.Needs.{needs}
 use Rattle.members.proofs.tied.Statement.{statement}
 use Rattle.members.proofs.tied.Tie as tie
-use Rattle.members.proofs.tied.Reads as reads
-use Rattle.members.proofs.tied.Lts as lts
-use Rattle.members.proofs.is_member.Reads as is-member-reads
-use Rattle.members.proofs.set_of.Reads as set-of-reads
 
 set-of-requires : tie.Need-set-of-requires
 set-of-requires c κs = search needs

@@ -4,12 +4,6 @@ use Rattle.model.specs.Shape.{aboutShaped}
 use borrow.Author.Needs.{needs}
 use Rattle.message_shape.proofs.about_shaped.Statement.{statement}
 use Rattle.message_shape.proofs.about_shaped.Tie as tie
-use Rattle.message_shape.proofs.about_shaped.Reads as reads
-use Rattle.message_shape.proofs.about_shaped.Lts as lts
-use Rattle.message_shape.proofs.both_tied.Reads as both-tied-reads
-use Rattle.message_shape.proofs.plain_shaped.Reads as plain-shaped-reads
-use Rattle.message_shape.proofs.release_shaped.Reads as release-shaped-reads
-use Rattle.members.proofs.tied.Reads as tied-reads
 
 plain-shaped-requires : tie.Need-plain-shaped-requires
 plain-shaped-requires c κs = search needs

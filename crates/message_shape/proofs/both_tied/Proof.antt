@@ -4,9 +4,6 @@ use borrow.Author.Tests.{not-true, not-false}
 use borrow.Author.Needs.{needs}
 use Rattle.message_shape.proofs.both_tied.Statement.{statement}
 use Rattle.message_shape.proofs.both_tied.Tie as tie
-use Rattle.message_shape.proofs.both_tied.Reads as reads
-use Rattle.message_shape.proofs.both_tied.Lts as lts
-use Rattle.members.proofs.tied.Reads as tied-reads
 
 tied-requires : tie.Need-tied-requires
 tied-requires c κs = search needs

@@ -5,11 +5,6 @@ use Rattle.model.specs.Shape.{aboutShaped, messageShaped}
 use borrow.Author.Needs.{needs}
 use Rattle.message_shape.proofs.message_shaped.Statement.{statement}
 use Rattle.message_shape.proofs.message_shaped.Tie as tie
-use Rattle.message_shape.proofs.message_shaped.Reads as reads
-use Rattle.message_shape.proofs.message_shaped.Lts as lts
-use Rattle.message_shape.proofs.about_shaped.Reads as about-shaped-reads
-use Rattle.ranges.proofs.is_site.Reads as is-site-reads
-use Rattle.message_shape.proofs.number_shaped.Reads as number-shaped-reads
 
 is-site-requires : tie.Need-is-site-requires
 is-site-requires c κs = search needs

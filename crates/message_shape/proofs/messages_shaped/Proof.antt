@@ -1,6 +1,6 @@
 -- `messages_shaped`: each message so far is shaped.
 use Prim.Native.Nat.{_≤_, _-_}
-use mathlib.Core.Path.{_≡_, sym, _∙_}
+use mathlib.Core.Path.{_≡_, refl, sym, _∙_}
 use mathlib.Core.Bool.{true}
 use mathlib.Core.List.{map}
 use native.Mathlib.Omega.{arith}
@@ -13,13 +13,10 @@ use lib.Seq.{take-all}
 use Rattle.mail.specs.Rows.{messageOf}
 use Rattle.model.specs.Shape.{messageShaped, messagesShaped}
 use Rattle.members.specs.Ties.{tablesFor}
-use Rattle.message_shape.proofs.Rows.{rows-more, rows-fail}
+use Rattle.mail.proofs.Tests.{each-more, each-fails}
 use borrow.Author.Needs.{needs}
 use Rattle.message_shape.proofs.messages_shaped.Statement.{statement}
 use Rattle.message_shape.proofs.messages_shaped.Tie as tie
-use Rattle.message_shape.proofs.messages_shaped.Reads as reads
-use Rattle.message_shape.proofs.messages_shaped.Lts as lts
-use Rattle.message_shape.proofs.message_shaped.Reads as message-shaped-reads
 
 abbrev Inv-loop : tie.InvT-loop
 Inv-loop size sets list count i₀ i = (i ≤ count) × (messagesShaped (tablesFor size sets) (map messageOf (take i list)) ≡ true)
@@ -50,10 +47,12 @@ message-shaped-requires : tie.Need-message-shaped-requires Inv-loop μ-loop
 message-shaped-requires c κs = search needs
 
 returns-2 : tie.Need-returns-2 Inv-loop μ-loop
+unfolding messagesShaped
 returns-2 c =
     let l = c .before .before .before .before .before .before .loop in
     let a = c .before .before .before .before .before .before .before .args in
-    sym (rows-fail (tablesFor (a .size) (now (a .sets))) (now (a .list)) (a .count) (l .i) (omega arith) (omega arith) (sym (rw (c .before .before .message .ensures) at (c .before .message-shaped .ensures)) ∙ not-true _ (c .if2 .taken)))
+    let t = tablesFor (a .size) (now (a .sets)) in
+    sym (each-fails (messageShaped t) (messagesShaped t) refl (λ m ms. refl) (now (a .list)) (a .count) (l .i) (omega arith) (omega arith) (sym (rw (c .before .before .message .ensures) at (c .before .message-shaped .ensures)) ∙ not-true _ (c .if2 .taken)))
 
 add-i : tie.Need-add-i Inv-loop μ-loop
 add-i c = search needs
@@ -62,10 +61,12 @@ loop-less : tie.Need-loop-less Inv-loop μ-loop
 loop-less c = search needs
 
 loop-again : tie.Need-loop-again Inv-loop μ-loop
+unfolding messagesShaped
 loop-again c =
     let l = c .before .before .before .before .before .before .loop in
     let a = c .before .before .before .before .before .before .before .args in
-    (omega arith, rw add-one (rows-more (tablesFor (a .size) (now (a .sets))) (now (a .list)) (l .i) (omega arith) (l .inv .1) (sym (rw (c .before .before .message .ensures) at (c .before .message-shaped .ensures)) ∙ not-false _ (c .if2 .left))))
+    let t = tablesFor (a .size) (now (a .sets)) in
+    (omega arith, rw add-one (each-more (messageShaped t) (messagesShaped t) refl (λ m ms. refl) (now (a .list)) (l .i) (omega arith) (l .inv .1) (sym (rw (c .before .before .message .ensures) at (c .before .message-shaped .ensures)) ∙ not-false _ (c .if2 .left))))
 
 returns-3 : tie.Need-returns-3 Inv-loop μ-loop
 returns-3 c = sym (rw (le-antisymm (c .before .loop .inv .0) (c .loop-test .left)) at (c .before .loop .inv .1))

@@ -4,9 +4,6 @@ use Rattle.model.specs.Shape.{numberShaped}
 use borrow.Author.Needs.{needs}
 use Rattle.message_shape.proofs.number_shaped.Statement.{statement}
 use Rattle.message_shape.proofs.number_shaped.Tie as tie
-use Rattle.message_shape.proofs.number_shaped.Reads as reads
-use Rattle.message_shape.proofs.number_shaped.Lts as lts
-use Rattle.ranges.proofs.is_given.Reads as is-given-reads
 
 returns : tie.Need-returns
 unfolding numberShaped

@@ -3,9 +3,6 @@ use borrow.Author.Tests.{eq-eqb, ne-eqb}
 use borrow.Author.Needs.{needs}
 use Rattle.message_shape.proofs.plain_shaped.Statement.{statement}
 use Rattle.message_shape.proofs.plain_shaped.Tie as tie
-use Rattle.message_shape.proofs.plain_shaped.Reads as reads
-use Rattle.message_shape.proofs.plain_shaped.Lts as lts
-use Rattle.members.proofs.tied.Reads as tied-reads
 
 returns : tie.Need-returns
 returns c = rw (ne-eqb _ 0 (c .if1 .taken))

@@ -4,9 +4,6 @@ use borrow.Author.Tests.{eq-eqb, ne-eqb, not-true, not-false}
 use borrow.Author.Needs.{needs}
 use Rattle.message_shape.proofs.release_shaped.Statement.{statement}
 use Rattle.message_shape.proofs.release_shaped.Tie as tie
-use Rattle.message_shape.proofs.release_shaped.Reads as reads
-use Rattle.message_shape.proofs.release_shaped.Lts as lts
-use Rattle.members.proofs.tied.Reads as tied-reads
 
 tied-requires : tie.Need-tied-requires
 tied-requires c κs = search needs

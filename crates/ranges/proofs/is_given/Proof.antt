@@ -3,8 +3,6 @@ use borrow.Author.Tests.{le-leb, lt-leb}
 use Rattle.model.specs.Shape.{isNumber, isGiven}
 use Rattle.ranges.proofs.is_given.Statement.{statement}
 use Rattle.ranges.proofs.is_given.Tie as tie
-use Rattle.ranges.proofs.is_given.Reads as reads
-use Rattle.ranges.proofs.is_given.Lts as lts
 
 returns : tie.Need-returns
 unfolding isGiven isNumber

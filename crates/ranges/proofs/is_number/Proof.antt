@@ -3,8 +3,6 @@ use mathlib.Core.Path.{refl}
 use Rattle.model.specs.Shape.{isNumber}
 use Rattle.ranges.proofs.is_number.Statement.{statement}
 use Rattle.ranges.proofs.is_number.Tie as tie
-use Rattle.ranges.proofs.is_number.Reads as reads
-use Rattle.ranges.proofs.is_number.Lts as lts
 
 returns : tie.Need-returns
 unfolding isNumber

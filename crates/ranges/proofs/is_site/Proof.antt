@@ -2,8 +2,6 @@
 use borrow.Author.Tests.{le-leb, lt-leb}
 use Rattle.ranges.proofs.is_site.Statement.{statement}
 use Rattle.ranges.proofs.is_site.Tie as tie
-use Rattle.ranges.proofs.is_site.Reads as reads
-use Rattle.ranges.proofs.is_site.Lts as lts
 
 returns : tie.Need-returns
 returns c = simp (le-leb _ _ (c .if1 .taken))

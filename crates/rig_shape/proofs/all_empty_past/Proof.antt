@@ -14,9 +14,6 @@ use Rattle.rig_shape.specs.Parts.{emptyPast}
 use borrow.Author.Needs.{needs}
 use Rattle.rig_shape.proofs.all_empty_past.Statement.{statement}
 use Rattle.rig_shape.proofs.all_empty_past.Tie as tie
-use Rattle.rig_shape.proofs.all_empty_past.Reads as reads
-use Rattle.rig_shape.proofs.all_empty_past.Lts as lts
-use Rattle.rig_shape.proofs.empty_past.Reads as empty-past-reads
 
 abbrev Inv-loop : tie.InvT-loop
 Inv-loop size sets i₀ i = (i ≤ siteLimit) × (all (λ k. emptyPast size k (at 0 sets k)) i ≡ true)

@@ -4,11 +4,6 @@ use borrow.Author.Tests.{not-true, not-false}
 use borrow.Author.Needs.{needs}
 use Rattle.rig_shape.proofs.arbiter_shaped.Statement.{statement}
 use Rattle.rig_shape.proofs.arbiter_shaped.Tie as tie
-use Rattle.rig_shape.proofs.arbiter_shaped.Reads as reads
-use Rattle.rig_shape.proofs.arbiter_shaped.Lts as lts
-use Rattle.rig_shape.proofs.holder_shaped.Reads as holder-shaped-reads
-use Rattle.ranges.proofs.is_number.Reads as is-number-reads
-use Rattle.ranges.proofs.is_site.Reads as is-site-reads
 
 is-number-requires : tie.Need-is-number-requires
 is-number-requires c κs = search needs

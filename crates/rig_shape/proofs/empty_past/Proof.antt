@@ -2,8 +2,6 @@
 use borrow.Author.Tests.{le-leb, lt-leb}
 use Rattle.rig_shape.proofs.empty_past.Statement.{statement}
 use Rattle.rig_shape.proofs.empty_past.Tie as tie
-use Rattle.rig_shape.proofs.empty_past.Reads as reads
-use Rattle.rig_shape.proofs.empty_past.Lts as lts
 
 returns : tie.Need-returns
 returns c = simp (le-leb _ _ (c .if1 .taken))

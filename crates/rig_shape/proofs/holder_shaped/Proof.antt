@@ -7,10 +7,6 @@ use borrow.Author.Tests.{eq-eqb, ne-eqb, not-true, not-false}
 use borrow.Author.Needs.{needs}
 use Rattle.rig_shape.proofs.holder_shaped.Statement.{statement}
 use Rattle.rig_shape.proofs.holder_shaped.Tie as tie
-use Rattle.rig_shape.proofs.holder_shaped.Reads as reads
-use Rattle.rig_shape.proofs.holder_shaped.Lts as lts
-use Rattle.ranges.proofs.is_given.Reads as is-given-reads
-use Rattle.members.proofs.tied.Reads as tied-reads
 
 returns : tie.Need-returns
 returns c = rw (eq-eqb _ 0 (c .before .if1 .taken))

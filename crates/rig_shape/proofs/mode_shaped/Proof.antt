@@ -3,9 +3,6 @@ use Rattle.model.specs.Shape.{modeShaped}
 use borrow.Author.Needs.{needs}
 use Rattle.rig_shape.proofs.mode_shaped.Statement.{statement}
 use Rattle.rig_shape.proofs.mode_shaped.Tie as tie
-use Rattle.rig_shape.proofs.mode_shaped.Reads as reads
-use Rattle.rig_shape.proofs.mode_shaped.Lts as lts
-use Rattle.ranges.proofs.is_given.Reads as is-given-reads
 
 enum-told : tie.Need-enum-told
 enum-told c = search needs

@@ -5,9 +5,6 @@ use Rattle.model.specs.Shape.{setsShaped}
 use borrow.Author.Needs.{needs}
 use Rattle.rig_shape.proofs.sets_shaped.Statement.{statement}
 use Rattle.rig_shape.proofs.sets_shaped.Tie as tie
-use Rattle.rig_shape.proofs.sets_shaped.Reads as reads
-use Rattle.rig_shape.proofs.sets_shaped.Lts as lts
-use Rattle.rig_shape.proofs.all_empty_past.Reads as all-empty-past-reads
 
 judge-requires : tie.Need-judge-requires
 judge-requires c κs = search needs

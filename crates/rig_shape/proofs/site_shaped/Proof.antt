@@ -5,12 +5,6 @@ use Rattle.model.specs.Shape.{siteBlank}
 use borrow.Author.Needs.{needs}
 use Rattle.rig_shape.proofs.site_shaped.Statement.{statement}
 use Rattle.rig_shape.proofs.site_shaped.Tie as tie
-use Rattle.rig_shape.proofs.site_shaped.Reads as reads
-use Rattle.rig_shape.proofs.site_shaped.Lts as lts
-use Rattle.ranges.proofs.is_number.Reads as is-number-reads
-use Rattle.modes.proofs.is_resting.Reads as is-resting-reads
-use Rattle.ranges.proofs.is_site.Reads as is-site-reads
-use Rattle.rig_shape.proofs.mode_shaped.Reads as mode-shaped-reads
 
 is-site-requires : tie.Need-is-site-requires
 is-site-requires c κs = search needs

@@ -7,14 +7,6 @@ use Rattle.shape.proofs.Whole.{tables-parts}
 use borrow.Author.Needs.{needs}
 use Rattle.shape.proofs.tables_shaped.Statement.{statement}
 use Rattle.shape.proofs.tables_shaped.Tie as tie
-use Rattle.shape.proofs.tables_shaped.Reads as reads
-use Rattle.shape.proofs.tables_shaped.Lts as lts
-use Rattle.rig_shape.proofs.arbiters_shaped.Reads as arbiters-shaped-reads
-use Rattle.table_shape.proofs.entries_shaped.Reads as entries-shaped-reads
-use Rattle.table_shape.proofs.heirs_shaped.Reads as heirs-shaped-reads
-use Rattle.table_shape.proofs.queues_shaped.Reads as queues-shaped-reads
-use Rattle.rig_shape.proofs.sets_shaped.Reads as sets-shaped-reads
-use Rattle.rig_shape.proofs.sites_shaped.Reads as sites-shaped-reads
 
 sets-shaped-requires : tie.Need-sets-shaped-requires
 sets-shaped-requires c κs = search needs

@@ -6,9 +6,6 @@ use Rattle.model.specs.Site.{failedSet, onFail}
 use Rattle.yields.proofs.Does.{did-only}
 use Rattle.site.proofs.on_fail.Statement.{statement}
 use Rattle.site.proofs.on_fail.Tie as tie
-use Rattle.entries.proofs.failed_set.Reads as failed-set-reads
-use Rattle.modes.proofs.is_waiting.Reads as is-waiting-reads
-use Rattle.yields.proofs.yield_members.Reads as yield-members-reads
 
 is-waiting-requires : tie.Need-is-waiting-requires
 is-waiting-requires c κs = search needs

@@ -7,10 +7,6 @@ use Rattle.model.specs.Site.{taken, takes, onReply}
 use Rattle.yields.proofs.Does.{did-only}
 use Rattle.site.proofs.on_reply.Statement.{statement}
 use Rattle.site.proofs.on_reply.Tie as tie
-use Rattle.members.proofs.is_member.Reads as is-member-reads
-use Rattle.modes.proofs.is_waiting.Reads as is-waiting-reads
-use Rattle.entries.proofs.take.Reads as take-reads
-use Rattle.site.proofs.enter_or_yield.Reads as enter-or-yield-reads
 
 is-waiting-requires : tie.Need-is-waiting-requires
 is-waiting-requires c κs = search needs

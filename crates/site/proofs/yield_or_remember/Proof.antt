@@ -7,9 +7,6 @@ use Rattle.model.specs.Site.{yieldedOrRemembered}
 use Rattle.yields.proofs.Does.{did-only}
 use Rattle.site.proofs.yield_or_remember.Statement.{statement}
 use Rattle.site.proofs.yield_or_remember.Tie as tie
-use Rattle.modes.proofs.has_failed.Reads as has-failed-reads
-use Rattle.entries.proofs.remember.Reads as remember-reads
-use Rattle.yields.proofs.yield_member.Reads as yield-member-reads
 
 sub-i : tie.Need-sub-i
 sub-i c = search needs

@@ -15,9 +15,6 @@ use Rattle.table_shape.specs.Rows.{rowFits}
 use borrow.Author.Needs.{needs}
 use Rattle.table_shape.proofs.entries_shaped.Statement.{statement}
 use Rattle.table_shape.proofs.entries_shaped.Tie as tie
-use Rattle.table_shape.proofs.entries_shaped.Reads as reads
-use Rattle.table_shape.proofs.entries_shaped.Lts as lts
-use Rattle.table_shape.proofs.row_shaped.Reads as row-shaped-reads
 
 abbrev Inv-loop : tie.InvT-loop
 Inv-loop sets table i₀ i = (i ≤ siteLimit) × (all (λ k. rowFits sets k (at [] table k)) i ≡ true)

@@ -3,9 +3,6 @@ use Rattle.model.specs.Shape.{entryShaped}
 use borrow.Author.Needs.{needs}
 use Rattle.table_shape.proofs.entry_shaped.Statement.{statement}
 use Rattle.table_shape.proofs.entry_shaped.Tie as tie
-use Rattle.table_shape.proofs.entry_shaped.Reads as reads
-use Rattle.table_shape.proofs.entry_shaped.Lts as lts
-use Rattle.ranges.proofs.is_number.Reads as is-number-reads
 
 is-number-requires : tie.Need-is-number-requires
 is-number-requires c κs = search needs

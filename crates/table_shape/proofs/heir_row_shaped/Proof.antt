@@ -14,9 +14,6 @@ use Rattle.table_shape.specs.Rows.{heirFits}
 use borrow.Author.Needs.{needs}
 use Rattle.table_shape.proofs.heir_row_shaped.Statement.{statement}
 use Rattle.table_shape.proofs.heir_row_shaped.Tie as tie
-use Rattle.table_shape.proofs.heir_row_shaped.Reads as reads
-use Rattle.table_shape.proofs.heir_row_shaped.Lts as lts
-use Rattle.table_shape.proofs.heir_shaped.Reads as heir-shaped-reads
 
 abbrev Inv-loop : tie.InvT-loop
 Inv-loop sets k row i₀ i = (i ≤ siteLimit) × (all (λ j. heirFits sets k j (at 0 row j)) i ≡ true)

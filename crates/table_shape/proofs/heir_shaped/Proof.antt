@@ -4,9 +4,6 @@ use borrow.Author.Tests.{eq-eqb, ne-eqb, not-true, not-false}
 use borrow.Author.Needs.{needs}
 use Rattle.table_shape.proofs.heir_shaped.Statement.{statement}
 use Rattle.table_shape.proofs.heir_shaped.Tie as tie
-use Rattle.table_shape.proofs.heir_shaped.Reads as reads
-use Rattle.table_shape.proofs.heir_shaped.Lts as lts
-use Rattle.members.proofs.tied.Reads as tied-reads
 
 returns : tie.Need-returns
 returns c = rw (eq-eqb _ 0 (c .if1 .taken))

@@ -15,9 +15,6 @@ use Rattle.table_shape.specs.Rows.{heirsFit}
 use borrow.Author.Needs.{needs}
 use Rattle.table_shape.proofs.heirs_shaped.Statement.{statement}
 use Rattle.table_shape.proofs.heirs_shaped.Tie as tie
-use Rattle.table_shape.proofs.heirs_shaped.Reads as reads
-use Rattle.table_shape.proofs.heirs_shaped.Lts as lts
-use Rattle.table_shape.proofs.heir_row_shaped.Reads as heir-row-shaped-reads
 
 abbrev Inv-loop : tie.InvT-loop
 Inv-loop sets table i₀ i = (i ≤ siteLimit) × (all (λ k. heirsFit sets k (at [] table k)) i ≡ true)

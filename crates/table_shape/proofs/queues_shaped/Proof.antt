@@ -15,9 +15,6 @@ use Rattle.table_shape.specs.Rows.{queueFits}
 use borrow.Author.Needs.{needs}
 use Rattle.table_shape.proofs.queues_shaped.Statement.{statement}
 use Rattle.table_shape.proofs.queues_shaped.Tie as tie
-use Rattle.table_shape.proofs.queues_shaped.Reads as reads
-use Rattle.table_shape.proofs.queues_shaped.Lts as lts
-use Rattle.table_shape.proofs.queue_shaped.Reads as queue-shaped-reads
 
 abbrev Inv-loop : tie.InvT-loop
 Inv-loop sets table i₀ i = (i ≤ siteLimit) × (all (λ j. queueFits sets j (at [] table j)) i ≡ true)

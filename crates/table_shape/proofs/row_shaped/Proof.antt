@@ -15,10 +15,6 @@ use Rattle.members.specs.Ties.{tiedBy}
 use borrow.Author.Needs.{needs}
 use Rattle.table_shape.proofs.row_shaped.Statement.{statement}
 use Rattle.table_shape.proofs.row_shaped.Tie as tie
-use Rattle.table_shape.proofs.row_shaped.Reads as reads
-use Rattle.table_shape.proofs.row_shaped.Lts as lts
-use Rattle.table_shape.proofs.entry_shaped.Reads as entry-shaped-reads
-use Rattle.members.proofs.tied.Reads as tied-reads
 
 abbrev Inv-loop : tie.InvT-loop
 Inv-loop sets k row i₀ i = (i ≤ siteLimit) × (all (λ j. entryShaped (tiedBy sets k j) (at 0 row j)) i ≡ true)

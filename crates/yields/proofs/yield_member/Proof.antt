@@ -4,9 +4,6 @@ use Rattle.model.proofs.Tables.{at-read, put-write}
 use Rattle.model.specs.Site.{failedSet, yielded}
 use Rattle.yields.proofs.yield_member.Statement.{statement}
 use Rattle.yields.proofs.yield_member.Tie as tie
-use Rattle.entries.proofs.failed_set.Reads as failed-set-reads
-use Rattle.mail.proofs.append.Reads as append-reads
-use Rattle.rig.proofs.Message.yielding.Reads as yielding-reads
 
 sub-i : tie.Need-sub-i
 sub-i c = search needs

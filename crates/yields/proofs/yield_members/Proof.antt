@@ -11,7 +11,6 @@ use Rattle.mail.specs.Did.{Did}
 use Rattle.yields.proofs.Does.{did-only, did-then, up-to-short}
 use Rattle.yields.proofs.yield_members.Statement.{statement}
 use Rattle.yields.proofs.yield_members.Tie as tie
-use Rattle.yields.proofs.yield_if.Reads as yield-if-reads
 
 abbrev Inv-loop : tie.InvT-loop
 Inv-loop out₀ count a₀ i₀ i-end out a i =
