@@ -3,7 +3,7 @@ use rig::Rig;
 ghost use mathlib.Core.Path.{_≡_};
 ghost use Rattle.model.specs.Sets.{member};
 ghost use Rattle.model.specs.Tables.{at};
-ghost use Rattle.members.specs.Ties.{tiedBy};
+ghost use Rattle.members.specs.Ties.{tiedBy, bothTied};
 
 // Site j is a member of the set.
 pub fn is_member(set: u64, j: u64) -> bool
@@ -36,4 +36,14 @@ pub fn tied(sets: &[u64; Rig::SITES], k: u64, j: u64) -> bool
     ensures { λ r. ⌜ r ≡ tiedBy (now (sets .entry)) k j ⌝ }
 {
     is_member(set_of(sets, k), j)
+}
+
+// Two sites are tied to arbiter j.
+pub fn both_tied(sets: &[u64; Rig::SITES], k: u64, heir: u64, j: u64) -> bool
+    ensures { λ r. ⌜ r ≡ bothTied (now (sets .entry)) k heir j ⌝ }
+{
+    if !tied(sets, k, j) {
+        return false;
+    }
+    tied(sets, heir, j)
 }

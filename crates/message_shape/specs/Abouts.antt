@@ -9,10 +9,6 @@ use Rattle.members.specs.Ties.{tiedBy}
 abbrev pub plainFits : List ℕ → ℕ → ℕ → ℕ → Bool
 plainFits sets about k j = eqb about 0 && tiedBy sets k j
 
--- an heir
-abbrev pub bothTied : List ℕ → ℕ → ℕ → ℕ → Bool
-bothTied sets k heir j = tiedBy sets k j && tiedBy sets heir j
-
 -- an heir or 0
 abbrev pub releaseFits : List ℕ → ℕ → ℕ → ℕ → Bool
 releaseFits sets k j heir = tiedBy sets k j && (eqb heir 0 || tiedBy sets heir j)

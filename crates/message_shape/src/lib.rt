@@ -1,6 +1,7 @@
 // Whether the messages under way are well shaped, as model/specs/Shape defines it.
 use mail::Row;
 use mail::message;
+use members::both_tied;
 use members::tied;
 use ranges::is_given;
 use ranges::is_site;
@@ -12,7 +13,7 @@ ghost use lib.ListN.{take};
 ghost use Rattle.mail.specs.Rows.{messageOf};
 ghost use Rattle.members.specs.Ties.{tablesFor};
 ghost use Rattle.model.specs.Shape.{numberShaped, aboutShaped, messageShaped, messagesShaped};
-ghost use Rattle.message_shape.specs.Abouts.{plainFits, bothTied, releaseFits};
+ghost use Rattle.message_shape.specs.Abouts.{plainFits, releaseFits};
 
 // "`number` is 0 in a fail, else at least 1"
 fn number_shaped(m: Message) -> bool
@@ -32,16 +33,6 @@ fn plain_shaped(sets: &[u64; Rig::SITES], about: u64, k: u64, j: u64) -> bool
         return false;
     }
     tied(sets, k, j)
-}
-
-// Two sites are tied to arbiter j.
-fn both_tied(sets: &[u64; Rig::SITES], k: u64, heir: u64, j: u64) -> bool
-    ensures { λ r. ⌜ r ≡ bothTied (now (sets .entry)) k heir j ⌝ }
-{
-    if !tied(sets, k, j) {
-        return false;
-    }
-    tied(sets, heir, j)
 }
 
 // Site k is tied to arbiter j, and so is the heir where there is one.

@@ -1,11 +1,11 @@
 -- The tests of model/specs/Shape on one entry or row of a table of numbers, with the sets.
 use Prim.Native.Nat.{ℕ}
-use mathlib.Core.Bool.{Bool, _&&_, _||_}
+use mathlib.Core.Bool.{Bool, _||_}
 use mathlib.Core.List.{List, []}
 use lib.Dec.{eqb}
 use Rattle.rig.specs.Limits.{siteLimit}
 use Rattle.basics.specs.Helpers.{all}
-use Rattle.members.specs.Ties.{tiedBy}
+use Rattle.members.specs.Ties.{tiedBy, bothTied}
 use Rattle.model.specs.Tables.{at}
 use Rattle.model.specs.Shape.{entryShaped}
 
@@ -15,7 +15,7 @@ rowFits sets k row = all (λ j. entryShaped (tiedBy sets k j) (at 0 row j)) site
 
 -- site k's heir for arbiter j, and its heirs for each arbiter
 abbrev pub heirFits : List ℕ → ℕ → ℕ → ℕ → Bool
-heirFits sets k j h = eqb h 0 || (tiedBy sets k j && tiedBy sets h j)
+heirFits sets k j h = eqb h 0 || bothTied sets k h j
 
 abbrev pub heirsFit : List ℕ → ℕ → List ℕ → Bool
 heirsFit sets k row = all (λ j. heirFits sets k j (at 0 row j)) siteLimit

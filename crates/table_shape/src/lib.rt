@@ -1,4 +1,5 @@
 // Whether the four tables of numbers are well shaped: `held`, `heir`, `inquired` and `queued`, as model/specs/Shape defines it.
+use members::both_tied;
 use members::tied;
 use ranges::is_number;
 use rig::Rig;
@@ -49,10 +50,7 @@ fn heir_shaped(sets: &[u64; Rig::SITES], k: u64, j: u64, heir: u64) -> bool
     if heir == 0 {
         return true;
     }
-    if !tied(sets, k, j) {
-        return false;
-    }
-    tied(sets, heir, j)
+    both_tied(sets, k, heir, j)
 }
 
 // Site k's heirs, one for each arbiter.

@@ -2,8 +2,8 @@
 use mathlib.Core.Path.{sym, _∙_}
 use borrow.Author.Tests.{not-true, not-false}
 use borrow.Author.Needs.{needs}
-use Rattle.message_shape.proofs.both_tied.Statement.{statement}
-use Rattle.message_shape.proofs.both_tied.Tie as tie
+use Rattle.members.proofs.both_tied.Statement.{statement}
+use Rattle.members.proofs.both_tied.Tie as tie
 
 tied-requires : tie.Need-tied-requires
 tied-requires c κs = search needs
