@@ -1,20 +1,20 @@
 -- What is done without a message, and what is done one thing after another.
 use Prim.Native.Nat.{ℕ, zero, suc, _≤_}
-use mathlib.Core.Path.{_≡_, refl, sym, _∙_}
-use mathlib.Core.List.{List, [], append-nil, append-assoc, map-append}
+use mathlib.Core.Path.{_≡_, _∙_}
+use mathlib.Core.List.{List, [], append-assoc, map-append}
 use native.Mathlib.Omega.{arith}
-use lib.ListN.{length, take, length-append}
+use lib.ListN.{length, length-append}
 use Rattle.rig.specs.declared.Desk.{Desk}
 use Rattle.mail.specs.declared.Acted.{Acted}
 use Rattle.mail.specs.Did.{Did}
-use Rattle.mail.proofs.Sending.{still-behind}
+use Rattle.mail.proofs.Sending.{sent-none, did-sent, still-behind}
 use Rattle.basics.proofs.Basics.{by-bool}
 use Rattle.model.specs.Desk.{Effect, effect}
 use Rattle.model.specs.Site.{yielded, mustYield, yieldedIf, yieldedUpTo, andThen}
 
 -- the desk changes and nothing is sent
 pub did-only : {d e : Desk} (n : ℕ) (rows : List (List ℕ)) → d ≡ e → Did (effect e []) n rows rows (record { desk = d; count = n })
-did-only n rows h = record { desk = h; count = omega arith; sent = sym (append-nil (take n rows)); rest = refl }
+did-only n rows h = rw h (did-sent sent-none)
 
 -- one effect, and then another on the desk that it left
 pub did-then : {e : Effect} (f : Desk → Effect) {n : ℕ} {rows mid after : List (List ℕ)} {a b : Acted} → Did e n rows mid a → Did (f (a .desk)) (a .count) mid after b → Did (andThen e (f (e .desk))) n rows after b
