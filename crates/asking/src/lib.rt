@@ -1,15 +1,16 @@
 // What a site does when it asks for its members' permissions, and when it leaves.
 use mail::Acted;
 use mail::Row;
+use members::is_member;
 use rig::Desk;
 use rig::Message;
 use rig::Mode;
 use rig::Rig;
 use rig::Site;
 ghost use mathlib.Core.Path.{_≡_};
-ghost use Prim.Native.Nat.{suc, _<_, _≤_, _+_};
+ghost use Prim.Native.Nat.{_<_, _≤_, _+_};
 ghost use lib.ListN.{length};
-ghost use Rattle.rig.specs.Limits.{siteLimit, numberLimit};
+ghost use Rattle.rig.specs.Limits.{numberLimit};
 ghost use Rattle.model.specs.Desk.{withSite, withoutEntries};
 ghost use Rattle.model.specs.Ask.{requests, asked};
 ghost use Rattle.model.specs.Leave.{handOn, handOns, left};
@@ -29,13 +30,13 @@ fn cleared(d: Desk, site: Site) -> Desk
     e
 }
 
-// One turn of the ask: the request to site i + 1, if it is in the set.
-fn request_member(number: u64, set: u64, seq: u64, i: u64, out: &mut [Row], count: usize) -> usize
-    requires { ⌜ (i < siteLimit) × (count < length (now out)) ⌝ }
-    ensures { λ r. ⌜ Sent (requestIf number set seq (suc i)) count (now (out .entry)) (now (out .exit)) r ⌝ }
+// One turn of the ask: the request to site j, if it is in the set.
+fn request_member(number: u64, set: u64, seq: u64, j: u64, out: &mut [Row], count: usize) -> usize
+    requires { ⌜ count < length (now out) ⌝ }
+    ensures { λ r. ⌜ Sent (requestIf number set seq j) count (now (out .entry)) (now (out .exit)) r ⌝ }
 {
-    if (set >> i) % 2 == 1 {
-        return mail::append(out, count, Message::request(number, i + 1, seq));
+    if is_member(set, j) {
+        return mail::append(out, count, Message::request(number, j, seq));
     }
     count
 }
@@ -47,7 +48,7 @@ fn request_members(d: Desk, seq: u64, out: &mut [Row], count: usize) -> usize
 {
     let mut n = count;
     for m in 0..d.size {
-        n = request_member(d.number, d.members, seq, m, out, n);
+        n = request_member(d.number, d.members, seq, m + 1, out, n);
     }
     n
 }
@@ -85,26 +86,26 @@ fn hand_on(number: u64, j: u64, k: u64, g: u64, out: &mut [Row], count: usize) -
     mail::append(out, n, Message::release(number, j, k, g))
 }
 
-// One turn of the leave: what is sent on for arbiter i + 1, if it is in the set and held.
+// One turn of the leave: what is sent on for arbiter j, if it is in the set and held.
 fn hand_on_member(
     number: u64,
     set: u64,
-    i: u64,
+    j: u64,
     k: u64,
     g: u64,
     out: &mut [Row],
     count: usize,
 ) -> usize
-    requires { ⌜ (i < siteLimit) × (g ≤ numberLimit) × (count + 2 ≤ length (now out)) ⌝ }
-    ensures { λ r. ⌜ Sent (handOnIf number set (suc i) k g) count (now (out .entry)) (now (out .exit)) r ⌝ }
+    requires { ⌜ (g ≤ numberLimit) × (count + 2 ≤ length (now out)) ⌝ }
+    ensures { λ r. ⌜ Sent (handOnIf number set j k g) count (now (out .entry)) (now (out .exit)) r ⌝ }
 {
-    if (set >> i) % 2 != 1 {
+    if !is_member(set, j) {
         return count;
     }
     if g == 0 {
         return count;
     }
-    hand_on(number, i + 1, k, g, out, count)
+    hand_on(number, j, k, g, out, count)
 }
 
 // What is sent on for each member held, ascending.
@@ -116,7 +117,7 @@ fn hand_on_members(d: Desk, out: &mut [Row], count: usize) -> usize
     for i in 0..d.size {
         let k = d.heir[i as usize];
         let g = d.held[i as usize];
-        n = hand_on_member(d.number, d.members, i, k, g, out, n);
+        n = hand_on_member(d.number, d.members, i + 1, k, g, out, n);
     }
     n
 }

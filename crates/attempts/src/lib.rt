@@ -6,43 +6,14 @@ use mail::Found;
 use mail::Row;
 use mail::first;
 use mail::message;
-use rig::Mode;
+use modes::is_inside;
+use modes::is_resting;
+use ranges::is_site;
 use rig::Rig;
 use rig::Table;
-ghost use mathlib.Core.Path.{_≡_};
-ghost use mathlib.Core.Bool.{_&&_};
-ghost use lib.Dec.{leb};
 ghost use Rattle.rig.specs.declared.Event.the-variants.{Ask, Leave, Deliver};
-ghost use Rattle.model.specs.State.{isResting, isInside};
 ghost use Rattle.accepting.specs.Whole.{stored};
 ghost use Rattle.attempts.specs.Asks.{Ready, Played};
-
-// Whether k is a site of a rig of that size.
-fn is_site(size: u64, k: u64) -> bool
-    ensures { λ r. ⌜ r ≡ (leb 1 k && leb k size) ⌝ }
-{
-    if k >= 1 { k <= size } else { false }
-}
-
-fn is_resting(m: Mode) -> bool
-    ensures { λ r. ⌜ r ≡ isResting m ⌝ }
-{
-    match m {
-        Mode::Rest => true,
-        Mode::Waiting { seq, failed } => false,
-        Mode::Inside => false,
-    }
-}
-
-fn is_inside(m: Mode) -> bool
-    ensures { λ r. ⌜ r ≡ isInside m ⌝ }
-{
-    match m {
-        Mode::Rest => false,
-        Mode::Waiting { seq, failed } => false,
-        Mode::Inside => true,
-    }
-}
 
 // An inner call: site s asks.
 pub fn ask(
@@ -67,8 +38,7 @@ pub fn ask(
     }
     let d = desk(rig, held, heir, inquired, queued, s);
     let site = d.site;
-    let mode = site.mode;
-    if !is_resting(mode) {
+    if !is_resting(site) {
         return Answer {
             code: 5,
             rig: rig,
@@ -115,8 +85,7 @@ pub fn leave(
     }
     let d = desk(rig, held, heir, inquired, queued, s);
     let site = d.site;
-    let mode = site.mode;
-    if !is_inside(mode) {
+    if !is_inside(site) {
         return Answer {
             code: 6,
             rig: rig,

@@ -1,3 +1,4 @@
--- Laws of tests, tables that are functions, counts and lists.
+-- Laws of tests, tables that are functions, counts, lists and small numbers.
 pub mod Basics
 pub mod Lists
+pub mod Numbers

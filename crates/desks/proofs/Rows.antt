@@ -1,7 +1,7 @@
 -- A desk read from its rows, and written to them, at the code's index.
 use Prim.Native.Nat.{ℕ, _-_, _≤_}
 use mathlib.Core.Path.{_≡_}
-use mathlib.Core.List.{List, []}
+use mathlib.Core.List.{[]}
 use lib.ListN.{getD, set}
 use Rattle.rig.specs.declared.Desk.{Desk}
 use Rattle.model.specs.Setup.{restingSite, freeArbiter}

@@ -1,60 +1,16 @@
 // A site's part of its desk: what it says, and how it changes. Each public function is an inner call.
+use members::is_member;
 use rig::Desk;
 use rig::Mode;
 use rig::Rig;
 use rig::Site;
 ghost use mathlib.Core.Path.{_≡_};
 ghost use mathlib.Core.Bool.{not, _||_, cond};
-ghost use Prim.Native.Nat.{suc, _<_, _≤_};
+ghost use Prim.Native.Nat.{_≤_};
 ghost use lib.Dec.{eqb};
 ghost use Rattle.rig.specs.Limits.{siteLimit, Listed};
 ghost use Rattle.model.specs.Sets.{member};
-ghost use Rattle.model.specs.State.{isWaiting, seqIn, failedIn};
 ghost use Rattle.model.specs.Site.{failedSet, allHeld, entered, taken, remembered, mustYield};
-
-// Whether the site waits.
-pub fn is_waiting(s: Site) -> bool
-    ensures { λ r. ⌜ r ≡ isWaiting (s .mode) ⌝ }
-{
-    let m = s.mode;
-    match m {
-        Mode::Rest => false,
-        Mode::Waiting { seq: _, failed: _ } => true,
-        Mode::Inside => false,
-    }
-}
-
-// The sequence number of its ask; 0 where it does not wait.
-fn seq_in(s: Site) -> u64
-    ensures { λ r. ⌜ r ≡ seqIn (s .mode) ⌝ }
-{
-    let m = s.mode;
-    match m {
-        Mode::Rest => 0,
-        Mode::Waiting { seq, failed: _ } => seq,
-        Mode::Inside => 0,
-    }
-}
-
-// Its failed mark; false where it does not wait.
-pub fn has_failed(s: Site) -> bool
-    ensures { λ r. ⌜ r ≡ failedIn (s .mode) ⌝ }
-{
-    let m = s.mode;
-    match m {
-        Mode::Rest => false,
-        Mode::Waiting { seq: _, failed } => failed,
-        Mode::Inside => false,
-    }
-}
-
-// Whether site j is in the set.
-pub fn has(set: u64, j: u64) -> bool
-    requires { ⌜ Listed j ⌝ }
-    ensures { λ r. ⌜ r ≡ member set j ⌝ }
-{
-    (set >> (j - 1)) % 2 == 1
-}
 
 // The failed mark is set.
 pub fn failed_set(d: Desk) -> Desk
@@ -63,7 +19,7 @@ pub fn failed_set(d: Desk) -> Desk
     let s = d.site;
     let site = Site {
         mode: Mode::Waiting {
-            seq: seq_in(s),
+            seq: modes::seq_in(s),
             failed: true,
         },
         clock: s.clock,
@@ -73,12 +29,11 @@ pub fn failed_set(d: Desk) -> Desk
     e
 }
 
-// One turn of `all_held`: site i + 1 is outside the set, or held with number g.
-fn outside_or_held(set: u64, i: u64, g: u64) -> bool
-    requires { ⌜ i < siteLimit ⌝ }
-    ensures { λ r. ⌜ r ≡ not (member set (suc i)) || not (eqb g 0) ⌝ }
+// One turn of `all_held`: site j is outside the set, or held with number g.
+fn outside_or_held(set: u64, j: u64, g: u64) -> bool
+    ensures { λ r. ⌜ r ≡ not (member set j) || not (eqb g 0) ⌝ }
 {
-    if (set >> i) % 2 == 1 { g != 0 } else { true }
+    if is_member(set, j) { g != 0 } else { true }
 }
 
 // All members are held.
@@ -88,7 +43,7 @@ pub fn all_held(d: Desk) -> bool
 {
     for i in 0..d.size {
         let g = d.held[i as usize];
-        if !outside_or_held(d.members, i, g) {
+        if !outside_or_held(d.members, i + 1, g) {
             return false;
         }
     }
@@ -146,7 +101,7 @@ pub fn must_yield(d: Desk, j: u64) -> bool
     requires { ⌜ Listed j ⌝ }
     ensures { λ r. ⌜ r ≡ mustYield d j ⌝ }
 {
-    if !has(d.members, j) {
+    if !is_member(d.members, j) {
         return false;
     }
     let i = (j - 1) as usize;

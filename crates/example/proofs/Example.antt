@@ -5,7 +5,7 @@ use mathlib.Core.List.{List, [], _∷_}
 use lib.ListN.{replicate}
 use Rattle.rig.specs.declared.Event.{Event}
 use Rattle.rig.specs.declared.Event.the-variants.{Ask, Leave, Deliver}
-use Rattle.rig.specs.Limits.{messageLimit, siteLimit}
+use Rattle.rig.specs.Limits.{messageLimit}
 use Rattle.model.specs.Tables.{at, put, cell}
 use Rattle.basics.specs.Helpers.{all, any, count, first, withoutFirst}
 use Rattle.model.specs.Sets.{member, meet, names}

@@ -1,32 +1,17 @@
 -- Bounds of the numbers that the code computes.
-use Prim.Native.Nat.{ℕ, zero, suc, _+_, _-_, _*_, _%_, _^_, _≤_, _<_}
+use Prim.Native.Nat.{ℕ, zero, suc, _+_, _*_, _%_, _^_, _≤_, _<_}
 use mathlib.Core.Path.{_≡_}
 use mathlib.Core.Bool.{Bool, true}
-use native.Mathlib.Nat.{mul-le-mul, mul-le-mul-right, one-mul, mod-eq-of-lt}
+use native.Mathlib.Nat.{mul-le-mul, one-mul, mod-eq-of-lt}
 use native.Mathlib.Omega.{arith}
-use lib.Dec.{eqb}
 use lib.Pow.{pow-lt}
 use Rattle.model.specs.Sets.{setOf}
 use Rattle.basics.proofs.Basics.{by-bool}
 use Rattle.families.specs.declared.Family.{Family}
 use Rattle.families.specs.declared.Family.the-variants.{Grid, Billiard, Plane}
-use Rattle.families.specs.Plane.{firstMatrix}
 use Rattle.families.specs.Family.{computed, sizeOf}
 use Rattle.families.proofs.Parameters.{side-bounds, p-bounds}
-use Rattle.families.proofs.Locations.{size-most}
-
--- the product of two numbers up to 31 is small
-pub product : (a b : ℕ) → a ≤ 31 → b ≤ 31 → a * b ≤ 961
-product a b h k = mul-le-mul h k
-
-pub square-least : (q : ℕ) → 2 ≤ q → 2 * q ≤ q * q
-square-least q h = mul-le-mul-right q h
-
-pub first-matrix-most : (p i j : ℕ) → p ≤ 31 → i ≤ 31 → j ≤ 31 → firstMatrix p i j ≤ 992
-unfolding firstMatrix
-first-matrix-most p i j a b d =
-    let l = product (i - 1) p (omega arith) a in
-    by-bool (eqb j 1) (λ e. rw e (omega arith)) (λ e. rw e (omega arith))
+use Rattle.billiard.proofs.Locations.{size-most}
 
 -- a bit below 40, as the code shifts it
 pub bit-most : (m : ℕ) → m < 40 → 2 ^ m < 2 ^ 40
@@ -45,7 +30,7 @@ set-below p (suc i) =
 
 -- every family that the code has sets for
 pub sites-most : (f : Family) → computed f ≡ true → sizeOf f ≤ 40
-unfolding sizeOf
+unfolding sizeOf computed
 sites-most (Grid s) h = let l = side-bounds s h in let m = mul-le-mul (l .1) (l .1) in omega arith
 sites-most (Billiard q) h = size-most q h
 sites-most (Plane p) h = let l = p-bounds p h in let k : p + 1 ≤ 6 = omega arith in let m = mul-le-mul (l .1) k in omega arith

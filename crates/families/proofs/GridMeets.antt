@@ -9,7 +9,7 @@ use borrow.Author.Tests.{eq-eqb, le-leb, lt-leb}
 use Rattle.model.specs.Sets.{member, setOf, meet}
 use Rattle.basics.proofs.Basics.{any-of}
 use Rattle.families.specs.declared.Family.the-variants.{Grid}
-use Rattle.families.specs.Grid.{gridSize, gridSite, gridRow, gridColumn, gridEntry}
+use Rattle.grid.specs.Grid.{gridSize, gridSite, gridRow, gridColumn, gridEntry}
 use Rattle.families.specs.Family.{sizeOf, widthOf, entry, hasSite, setAt}
 use Rattle.families.proofs.Members.{member-of}
 

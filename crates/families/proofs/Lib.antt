@@ -1,9 +1,6 @@
 -- Laws that belong to no one function.
 pub mod Bounds
 pub mod Parameters
-pub mod Steps
-pub mod Constant
-pub mod Locations
 pub mod Accepted
 pub mod Codes
 pub mod Members

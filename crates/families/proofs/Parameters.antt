@@ -1,23 +1,16 @@
 -- The parameters that the code has sets for, one by one.
 use Prim.Native.Nat.{ℕ, zero, suc, _≤_}
 use mathlib.Core.Path.{_≡_}
-use mathlib.Core.Logic.{⊎-elim}
-use mathlib.Core.Bool.{true, _||_}
+use mathlib.Core.Bool.{true}
 use native.Mathlib.Omega.{arith}
-use lib.Dec.{eqb, leb}
-use borrow.Author.Tests.{eqb-true, leb-true}
-use Rattle.basics.proofs.Basics.{and-split, or-either}
+use lib.Dec.{leb}
+use borrow.Author.Tests.{leb-true}
+use Rattle.basics.proofs.Basics.{and-split}
+use Rattle.basics.proofs.Numbers.{three}
 use Rattle.families.specs.declared.Family.{Family}
 use Rattle.families.specs.declared.Family.the-variants.{Grid, Billiard, Plane}
+use Rattle.billiard.specs.Billiard.{qComputed}
 use Rattle.families.specs.Family.{listed, computed}
-
--- what holds of each of three numbers holds of one that is among them
-three : (P : ℕ → Type 0) (a b d n : ℕ) → P a → P b → P d → eqb n a || (eqb n b || eqb n d) ≡ true → P n
-three P a b d n x y z e =
-    ⊎-elim
-    (λ h. rw (eqb-true n a h) x)
-    (λ h. ⊎-elim (λ k. rw (eqb-true n b k) y) (λ k. rw (eqb-true n d k) z) (or-either (eqb n b) (eqb n d) h))
-    (or-either (eqb n a) (eqb n b || eqb n d) e)
 
 -- what holds at each parameter holds of any that is listed
 pub by-side : (P : ℕ → Type 0) → P 1 → P 2 → P 3 → P 4 → P 5 → (s : ℕ) → listed (Grid s) ≡ true → P s
@@ -33,35 +26,21 @@ by-side P a b d e f s h = let w = and-split (leb 1 s) (leb s 5) h in up-to-five 
     up-to-five (suc (suc (suc (suc (suc zero))))) l m = f
     up-to-five (suc (suc (suc (suc (suc (suc n)))))) l m = absurd (omega arith)
 
-pub by-q : (P : ℕ → Type 0) → P 3 → P 5 → P 7 → (q : ℕ) → listed (Billiard q) ≡ true → P q
-unfolding listed
-by-q P a b d q h = three P 3 5 7 q a b d h
-
 pub by-p : (P : ℕ → Type 0) → P 2 → P 3 → P 5 → (p : ℕ) → listed (Plane p) ≡ true → P p
 unfolding listed
 by-p P a b d p h = three P 2 3 5 p a b d h
-
--- the same of any q that the code has sets for
-pub by-q-or-nine : (P : ℕ → Type 0) → P 3 → P 5 → P 7 → P 9 → (q : ℕ) → computed (Billiard q) ≡ true → P q
-unfolding computed
-by-q-or-nine P a b d e q h =
-    ⊎-elim (λ k. by-q P a b d q k) (λ k. rw (eqb-true q 9 k) e) (or-either (listed (Billiard q)) (eqb q 9) h)
 
 pub side-bounds : (s : ℕ) → computed (Grid s) ≡ true → (1 ≤ s) × (s ≤ 5)
 unfolding computed
 side-bounds s h =
     by-side (λ n. (1 ≤ n) × (n ≤ 5)) (omega arith, omega arith) (omega arith, omega arith) (omega arith, omega arith) (omega arith, omega arith) (omega arith, omega arith) s h
 
-pub q-bounds : (q : ℕ) → computed (Billiard q) ≡ true → (3 ≤ q) × (q ≤ 9)
-q-bounds q h =
-    by-q-or-nine (λ n. (3 ≤ n) × (n ≤ 9)) (omega arith, omega arith) (omega arith, omega arith) (omega arith, omega arith) (omega arith, omega arith) q h
-
 pub p-bounds : (p : ℕ) → computed (Plane p) ≡ true → (2 ≤ p) × (p ≤ 5)
 unfolding computed
 p-bounds p h = by-p (λ n. (2 ≤ n) × (n ≤ 5)) (omega arith, omega arith) (omega arith, omega arith) (omega arith, omega arith) p h
 
 pub listed-computed : (f : Family) → listed f ≡ true → computed f ≡ true
-unfolding computed
+unfolding computed listed qComputed
 listed-computed (Grid s) h = h
 listed-computed (Billiard q) h = rw h
 listed-computed (Plane p) h = h

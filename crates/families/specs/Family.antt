@@ -10,20 +10,20 @@ use Rattle.model.specs.Sets.{setOf}
 use Rattle.families.specs.declared.Family.{Family}
 use Rattle.families.specs.declared.Family.the-variants.{Grid, Billiard, Plane}
 use Rattle.families.specs.declared.Made.{Made}
-use Rattle.families.specs.Grid.{gridSize, gridWidth, gridEntry}
-use Rattle.families.specs.Billiard.{billiardSize, billiardEntry}
-use Rattle.families.specs.Plane.{planeSize, planeEntry}
+use Rattle.grid.specs.Grid.{gridSize, gridWidth, gridEntry}
+use Rattle.billiard.specs.Billiard.{qListed, qComputed, billiardSize, billiardEntry}
+use Rattle.plane.specs.Plane.{planeSize, planeEntry}
 
 -- "side s from 1 to 5", "q of 3, 5 or 7", "p of 2, 3 or 5"
 unfoldable pub listed : Family → Bool
 listed (Grid s) = leb 1 s && leb s 5
-listed (Billiard q) = eqb q 3 || (eqb q 5 || eqb q 7)
+listed (Billiard q) = qListed q
 listed (Plane p) = eqb p 2 || (eqb p 3 || eqb p 5)
 
--- what the code has sets of: the listed ones, and the billiard of q = 9, of which source 000 prints the sets of sites 11 and 34
+-- what the code has sets of: the listed ones, and the billiard of q = 9
 unfoldable pub computed : Family → Bool
 computed (Grid s) = listed (Grid s)
-computed (Billiard q) = listed (Billiard q) || eqb q 9
+computed (Billiard q) = qComputed q
 computed (Plane p) = listed (Plane p)
 
 -- the number of sites, N

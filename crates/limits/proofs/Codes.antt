@@ -1,7 +1,7 @@
 -- What each test says of the code.
 use Prim.Native.Nat.{ℕ, _+_, _≤_, _<_}
 use mathlib.Core.Path.{_≡_}
-use mathlib.Core.Bool.{true, false, not, _&&_, _||_, cond}
+use mathlib.Core.Bool.{true, false, _&&_, cond}
 use mathlib.Core.List.{List, map}
 use lib.Dec.{leb, ltb}
 use borrow.Author.Tests.{le-leb, lt-leb}

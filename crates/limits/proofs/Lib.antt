@@ -1,3 +1,2 @@
 -- Laws of the limits.
-pub mod Numbered
 pub mod Codes

@@ -1,8 +1,8 @@
 // Whether an event keeps to the limits of a rig: 9, 8 or 0.
 use mail::Row;
 use mail::message;
+use ranges::is_number;
 use rig::Rig;
-use shape::is_number;
 ghost use mathlib.Core.Path.{_≡_};
 ghost use mathlib.Core.List.{map};
 ghost use lib.ListN.{take};

@@ -4,3 +4,4 @@ pub mod Clear
 pub mod Places
 pub mod Rows
 pub mod Sending
+pub mod Tests

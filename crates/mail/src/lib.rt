@@ -2,7 +2,7 @@
 use rig::Desk;
 use rig::Message;
 ghost use mathlib.Core.Path.{_≡_};
-ghost use mathlib.Core.List.{List, [], _∷_, _++_};
+ghost use mathlib.Core.List.{[], _∷_, _++_};
 ghost use Prim.Native.Nat.{suc, _<_, _≤_, _+_, _-_};
 ghost use lib.ListN.{length, take, drop};
 ghost use lib.Seq.{paste};

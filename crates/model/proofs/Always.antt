@@ -1,15 +1,14 @@
 -- Every state of a run is well shaped, its numbers are small, and no reply, yield or plain release under way is stray.
-use Prim.Native.Nat.{ℕ, zero, suc, _+_, _*_, _≤_, _<_}
+use Prim.Native.Nat.{ℕ, suc, _+_, _*_, _≤_, _<_}
 use mathlib.Core.Path.{_≡_, refl, sym, _∙_, ap}
-use mathlib.Core.Logic.{_≢_, _⊎_, ⊎-elim}
-use mathlib.Core.Bool.{Bool, true, false, not, _&&_, _||_, cond}
+use mathlib.Core.Logic.{_≢_, ⊎-elim}
+use mathlib.Core.Bool.{Bool, true, false, _&&_, _||_}
 use mathlib.Core.List.{List, [], _∷_, _++_, map}
 use native.Mathlib.Omega.{arith}
 use native.Mathlib.Numerals.{add-one}
 use lib.Dec.{eqb, leb, ltb}
 use lib.ListN.{length, length-take}
 use borrow.Author.Tests.{eqb-true, eqb-false, eq-eqb, ne-eqb, leb-true, leb-false, le-leb}
-use Rattle.basics.specs.Helpers.{all}
 use Rattle.basics.proofs.Basics.{by-bool, clash, and-split, all-of, or-second}
 use Rattle.basics.proofs.Lists.{All}
 use Rattle.rig.specs.declared.Event.{Event}
@@ -26,20 +25,18 @@ use Rattle.protocol.proofs.RigInvariant.{RigInvariant, clauses-at, all-fit}
 use Rattle.protocol.proofs.Invariant.{numberOf}
 use Rattle.protocol.proofs.Numbers.{RigBelow, SentBelow, step-bounded, run-numbers}
 use Rattle.model.specs.Tables.{at, cell}
-use Rattle.model.specs.Setup.{setupCode, keptSets}
-use Rattle.model.specs.State.{Tables, seqIn, sizeOf, inRange, hasMember, siteOf, modeOf, arbiterOf, heldOf, heirOf, inquiredOf, queuedOf, deskOf}
+use Rattle.model.specs.Setup.{keptSets, restingSite, freeArbiter}
+use Rattle.model.specs.State.{Tables, seqIn, sizeOf, inRange, hasMember, siteOf, modeOf, arbiterOf, heldOf, heirOf, queuedOf, deskOf, withDesk}
 use Rattle.model.specs.Shape.{isNumber, isGiven, setsShaped, acceptedShaped, modeShaped, siteBlank, siteShaped, sitesShaped, holderShaped, arbiterShaped, arbitersShaped, entryShaped, heldShaped, inquiredShaped, heirShaped, queuedShaped, everywhere, numberShaped, aboutShaped, messageShaped, messagesShaped, tablesShaped, wellShaped}
-use Rattle.model.specs.Setup.{restingSite, freeArbiter}
-use Rattle.model.specs.State.{withDesk}
 use Rattle.model.specs.Desk.{Effect}
-use Rattle.model.specs.Event.{actor, sitesNamed, Attempt, refused, possible, attempt, allNumbers, numbersFit, limitCode, Stored, underWay, settled, judged, event}
+use Rattle.model.specs.Event.{actor, sitesNamed, Attempt, refused, possible, allNumbers, numbersFit, limitCode, Stored, underWay, settled, judged, event}
 use Rattle.model.specs.Arbiter.{fromHolder, isEarly}
 use Rattle.model.specs.Site.{takes}
 use Rattle.model.specs.Always.{Always, NineByCount, numbersUpTo, NumbersWithin, NumbersSmall, AlwaysShaped, fitsRule, allFit, NeverStray}
 use Rattle.model.proofs.Setup.{Accepted, accepts, accepted-code}
 use Rattle.model.proofs.Machine.{modeNumber, sentOf, rigOf, rests-same, waits-same}
 use Rattle.model.proofs.Lawful.{systemFrom, lawful, kept-past, kept-accepted}
-use Rattle.model.proofs.Plain.{wireOf, wire, Plain, AllPlain, both}
+use Rattle.model.proofs.Plain.{wireOf, AllPlain, both}
 use Rattle.model.proofs.Tables.{at-put-same}
 use Rattle.model.proofs.Reached.{Reached, Move, Moves, attempt-moves, moved}
 use Rattle.model.proofs.Theorem.{invariant, run-of}

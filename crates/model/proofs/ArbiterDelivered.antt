@@ -1,10 +1,8 @@
 -- A request, a release and a yield delivered: the definitions and the machine come to the same state of the whole rig.
-use Prim.Native.Nat.{ℕ, zero, suc, _+_, _≤_, _<_, max}
+use Prim.Native.Nat.{ℕ, _≤_}
 use mathlib.Core.Path.{_≡_, refl, sym, _∙_, ap}
-use mathlib.Core.Logic.{_≢_}
-use mathlib.Core.Bool.{Bool, true, false, cond}
-use mathlib.Core.List.{List, [], _∷_, _++_, map}
-use native.Mathlib.Omega.{arith}
+use mathlib.Core.Bool.{Bool, cond}
+use mathlib.Core.List.{List, _++_, map}
 use lib.Dec.{eqb}
 use lib.ListN.{length}
 use Rattle.rig.specs.declared.Desk.{Desk}
@@ -14,15 +12,14 @@ use Rattle.rig.specs.Limits.{siteLimit}
 use Rattle.basics.specs.Helpers.{update}
 use Rattle.protocol.specs.Message as M
 use Rattle.protocol.specs.Local as P
-use Rattle.protocol.specs.Arbiter as A
 use Rattle.protocol.specs.Site.{handled}
 use Rattle.protocol.specs.Rig as R
 use Rattle.basics.proofs.Basics.{update-same, update-other}
 use Rattle.model.specs.Tables.{at, cell}
 use Rattle.model.specs.State.{Tables, hasMember, siteOf, modeOf, seqIn, failedIn, heldOf, heirOf, inquiredOf, deskOf, withDesk}
-use Rattle.model.specs.Desk.{Effect, withSite}
+use Rattle.model.specs.Desk.{Effect}
 use Rattle.model.specs.Arbiter.{holderOf, granted, queuedUp, clockRaised, onRequest, onRelease, onYield}
-use Rattle.model.proofs.Machine.{modeNumber, systemOf, sitesOf, rowOf, sentOf, rigOf, localAt, Sized, DeskSized, desk-sized, rig-path, sites-path, update-self, map-append, sitesWith, clockWith, otherRow, ownRow, rig-with}
+use Rattle.model.proofs.Machine.{modeNumber, systemOf, sitesOf, rowOf, sentOf, rigOf, localAt, Sized, desk-sized, rig-path, sites-path, update-self, map-append, sitesWith, clockWith, rig-with}
 use Rattle.model.proofs.ArbiterRules.{Sees, SiteKept, request-sees, release-sees, handOver-sees, yield-sees, request-kept, release-kept, yield-kept}
 
 -- a site that keeps its mode

@@ -1,14 +1,14 @@
 -- What an arbiter does with a request, a release or a yield comes to the same in the definitions and in the machine: each rule of
 -- specs/Arbiter beside the rule of that name in the crate protocol. And it leaves what the desk has as a site.
-use Prim.Native.Nat.{ℕ, zero, suc, _+_, _≤_, _<_}
+use Prim.Native.Nat.{ℕ, zero, suc, _+_, _≤_}
 use mathlib.Core.Path.{_≡_, refl, sym, _∙_, ap, fun-ext}
-use mathlib.Core.Bool.{Bool, true, false, not, _&&_, cond}
-use mathlib.Core.List.{List, [], _∷_, _++_, map}
+use mathlib.Core.Bool.{Bool, false, not, _&&_, cond}
+use mathlib.Core.List.{List, [], map}
 use native.Mathlib.Omega.{arith}
 use native.Mathlib.Numerals.{add-one}
 use lib.Dec.{eqb}
 use lib.ListN.{length}
-use borrow.Author.Tests.{eqb-true, eqb-false, eq-eqb, ne-eqb}
+use borrow.Author.Tests.{eqb-false, ne-eqb}
 use Rattle.rig.specs.declared.Desk.{Desk}
 use Rattle.rig.specs.declared.Arbiter.{Arbiter}
 use Rattle.rig.specs.Limits.{siteLimit}
@@ -18,7 +18,7 @@ use Rattle.protocol.specs.Local as P
 use Rattle.protocol.specs.Arbiter as A
 use Rattle.protocol.specs.Rig.{sentBy}
 use Rattle.model.specs.Tables.{at, put}
-use Rattle.model.specs.Priority.{comesBefore, goesFirst, queuedKey, headWith, head}
+use Rattle.model.specs.Priority.{comesBefore, headWith, head}
 use Rattle.model.specs.Desk.{Effect, effect, queuedAt, withArbiter}
 use Rattle.model.specs.Arbiter.{grantOf, holderOf, holderKey, siteKey, headOf, heldBy, free, withQueued, without, nextHeir, granted, grantedHead, formerTold, failFormer, inquireOrFail, answers, queuedUp, inquireIfBefore, headNamed, heirTakesOver, holderReleases, fromHolder, isEarly, earlyRelease, onRelease, onYield}
 use Rattle.basics.proofs.Basics.{by-bool}

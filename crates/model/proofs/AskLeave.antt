@@ -1,18 +1,16 @@
 -- An ask and a leave: the definitions and the machine come to the same state of the whole rig.
-use Prim.Native.Nat.{ℕ, zero, suc, _+_, _≤_, _<_}
-use mathlib.Core.Path.{_≡_, refl, sym, _∙_, ap, fun-ext}
-use mathlib.Core.Bool.{Bool, true, false, not, _&&_, cond}
-use mathlib.Core.List.{List, [], _∷_, _++_, map}
-use native.Mathlib.Omega.{arith}
+use Prim.Native.Nat.{ℕ, zero, suc, _+_, _≤_}
+use mathlib.Core.Path.{_≡_, refl, _∙_, ap, fun-ext}
+use mathlib.Core.Bool.{not, _&&_}
+use mathlib.Core.List.{List, _++_, map}
 use native.Mathlib.Numerals.{add-one}
 use lib.Dec.{eqb}
-use Rattle.basics.specs.Helpers.{update}
 use Rattle.basics.proofs.Basics.{by-bool}
 use Rattle.rig.specs.declared.Message.{Message}
 use Rattle.rig.specs.declared.Mode.the-variants.{Inside}
-use Rattle.rig.specs.Limits.{siteLimit, blankRow}
+use Rattle.rig.specs.Limits.{siteLimit}
 use Rattle.protocol.specs.Rig as R
-use Rattle.model.specs.Tables.{at, cell}
+use Rattle.model.specs.Tables.{cell}
 use Rattle.model.specs.State.{Tables, seqIn, failedIn, sizeOf, hasMember, siteOf, modeOf, heldOf, heirOf, deskOf, withDesk}
 use Rattle.model.specs.Desk.{withoutEntries}
 use Rattle.model.specs.Ask.{requests, asked}

@@ -1,21 +1,17 @@
 -- No rule changes how long the rows of a desk are.
 use Prim.Native.Nat.{ℕ, zero, suc}
-use mathlib.Core.Path.{_≡_, refl, _∙_, ap}
-use mathlib.Core.Bool.{Bool, not, _&&_, cond}
-use mathlib.Core.List.{List}
+use mathlib.Core.Path.{refl, _∙_, ap}
+use mathlib.Core.Bool.{not, _&&_}
 use lib.Dec.{eqb}
 use lib.ListN.{length}
 use Rattle.basics.proofs.Basics.{by-bool}
 use Rattle.rig.specs.declared.Desk.{Desk}
 use Rattle.rig.specs.declared.Message.{Message}
-use Rattle.rig.specs.declared.Site.{Site}
-use Rattle.rig.specs.Limits.{siteLimit}
 use Rattle.rig.specs.Messages.{REQUEST, REPLY, RELEASE, INQUIRE, FAIL, YIELD, TRANSFER}
-use Rattle.model.specs.Tables.{put}
-use Rattle.model.specs.Desk.{waits, hasFailed, heldFor, inquiredFor, withSite, withEntries}
+use Rattle.model.specs.Desk.{waits, hasFailed, heldFor, inquiredFor}
 use Rattle.model.specs.Ask.{asked}
 use Rattle.model.specs.Leave.{left}
-use Rattle.model.specs.Arbiter.{holderOf, granted, queuedUp, clockRaised, onRequest, onRelease, onYield}
+use Rattle.model.specs.Arbiter.{clockRaised, onRequest}
 use Rattle.model.specs.Site.{failedSet, yielded, allHeld, entered, taken, enteredOrYielded, takes, onReply, remembered, yieldedOrRemembered, onInquire, mustYield, yieldedIf, yieldedUpTo, onFail, namesHeld, onTransfer}
 use Rattle.model.specs.Deliver.{delivered}
 use Rattle.model.proofs.Tables.{length-put}

@@ -1,20 +1,19 @@
 -- A fail delivered: the definitions and the machine come to the same state of the whole rig. The site yields member after member;
 -- the machine has each arbiter see its own part at once.
-use Prim.Native.Nat.{ℕ, zero, suc, _+_, _≤_, _<_}
+use Prim.Native.Nat.{ℕ, zero, suc, _≤_}
 use mathlib.Core.Path.{_≡_, refl, sym, _∙_, ap, fun-ext}
 use mathlib.Core.Logic.{_≢_}
-use mathlib.Core.Bool.{Bool, true, false, not, _&&_, cond}
+use mathlib.Core.Bool.{Bool, true, false, _&&_, cond}
 use mathlib.Core.List.{List, [], _∷_, _++_, map}
 use native.Mathlib.Omega.{arith}
 use lib.Dec.{eqb, leb}
 use lib.ListN.{length}
 use borrow.Author.Tests.{eqb-true, eqb-false, leb-true, leb-false, le-leb, lt-leb}
-use Rattle.basics.specs.Helpers.{update}
-use Rattle.basics.proofs.Basics.{by-bool, clash, and-split}
+use Rattle.basics.proofs.Basics.{by-bool, and-split}
 use Rattle.rig.specs.declared.Desk.{Desk}
 use Rattle.rig.specs.declared.Message.{Message}
 use Rattle.rig.specs.declared.Mode.{Mode}
-use Rattle.rig.specs.declared.Mode.the-variants.{Rest, Waiting, Inside}
+use Rattle.rig.specs.declared.Mode.the-variants.{Waiting}
 use Rattle.rig.specs.declared.Site.{Site}
 use Rattle.rig.specs.Limits.{siteLimit}
 use Rattle.protocol.specs.Message as M
@@ -23,11 +22,11 @@ use Rattle.protocol.specs.Site as S
 use Rattle.protocol.specs.System.{settingOf}
 use Rattle.protocol.specs.Rig as R
 use Rattle.model.specs.Tables.{at, put, cell}
-use Rattle.model.specs.State.{Tables, isWaiting, seqIn, failedIn, sizeOf, hasMember, siteOf, modeOf, heldOf, heirOf, inquiredOf, deskOf, withDesk}
-use Rattle.model.specs.Desk.{Effect, effect, has, heldFor, heirFor, inquiredFor}
+use Rattle.model.specs.State.{Tables, isWaiting, seqIn, sizeOf, hasMember, modeOf, deskOf, withDesk}
+use Rattle.model.specs.Desk.{Effect, heldFor}
 use Rattle.model.specs.Site.{failedSet, yielded, mustYield, yieldedIf, andThen, yieldedUpTo, onFail}
 use Rattle.model.proofs.Tables.{at-put-same, at-put-other, length-put}
-use Rattle.model.proofs.Machine.{modeNumber, systemOf, sitesOf, rowOf, sentOf, rigOf, localAt, Sized, DeskSized, desk-sized, waits-same, rig-path, sites-path, update-self, map-append, sitesWith, clockWith, otherRow}
+use Rattle.model.proofs.Machine.{modeNumber, systemOf, rowOf, sentOf, rigOf, localAt, Sized, DeskSized, desk-sized, waits-same, rig-path, sites-path, update-self, map-append, sitesWith, clockWith, otherRow}
 use Rattle.model.proofs.SiteDelivered.{of-site, nothing, columns}
 
 leb-step : (k i : ℕ) → k ≢ suc i → leb k (suc i) ≡ leb k i

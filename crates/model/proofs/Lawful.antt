@@ -1,26 +1,25 @@
 -- Setup's acceptance gives the laws of the family, and document 01's priority the laws of an order.
-use Prim.Native.Nat.{ℕ, zero, suc, pred, _+_, _-_, _*_, _/_, _%_, _^_, _≤_, _<_}
+use Prim.Native.Nat.{ℕ, zero, suc, pred, _+_, _-_, _/_, _%_, _^_, _≤_, _<_}
 use mathlib.Core.Path.{_≡_, refl, sym, _∙_, ap}
 use mathlib.Core.Logic.{_≢_}
-use mathlib.Core.Bool.{Bool, true, false, not, _&&_, cond}
-use mathlib.Core.List.{List, [], _++_}
+use mathlib.Core.Bool.{Bool, true, false, not, _&&_}
+use mathlib.Core.List.{List, _++_}
 use native.Mathlib.Omega.{arith}
 use native.Mathlib.Nat.{div-lt-iff-lt-mul}
 use lib.Dec.{eqb, ltb}
 use lib.ListN.{length, take, getD, replicate, length-append, length-replicate, List·getD-append}
 use lib.Seq.{length-take-le, getD-take, getD-append-add}
 use lib.Pow.{pow-pos, pow-mono}
-use borrow.Author.Tests.{eqb-true, eqb-false, eq-eqb, ne-eqb, ltb-true, ltb-false, lt-ltb, le-ltb, not-true}
+use borrow.Author.Tests.{eqb-true, eqb-false, eq-eqb, ltb-true, ltb-false, lt-ltb, le-ltb, not-true}
 use Rattle.rig.specs.Limits.{siteLimit}
 use Rattle.protocol.specs.System.{System, Lawful}
 use Rattle.model.specs.Tables.{at}
-use Rattle.basics.specs.Helpers.{all, any}
+use Rattle.basics.specs.Helpers.{any}
 use Rattle.model.specs.Sets.{member, meet, names}
-use Rattle.model.specs.Setup.{keptSets, allName, meetsEarlier, allMeet, setupCode}
-use Rattle.model.specs.Priority.{Key, key, comesBefore}
-use Rattle.basics.proofs.Basics.{by-bool, clash, and-split}
+use Rattle.model.specs.Setup.{keptSets, allName, meetsEarlier, allMeet}
+use Rattle.model.specs.Priority.{key, comesBefore}
+use Rattle.basics.proofs.Basics.{by-bool, clash, and-split, all-at, all-same, any-at, any-of}
 use Rattle.model.proofs.Tables.{at-same}
-use Rattle.basics.proofs.Basics.{all-at, all-same, any-at, any-of}
 use Rattle.model.proofs.Sets.{no-bits, names-below}
 use Rattle.model.proofs.Setup.{Accepted}
 

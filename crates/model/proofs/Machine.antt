@@ -1,9 +1,9 @@
 -- From the definitions' tables and messages to the state of the abstract machine (crate protocol), whose tables are functions of a
 -- site's number: what each part is there, and what it is once one site has another desk.
-use Prim.Native.Nat.{ℕ, zero, suc, _+_, _≤_, _<_}
+use Prim.Native.Nat.{ℕ, _≤_}
 use mathlib.Core.Path.{_≡_, refl, sym, _∙_, ap, fun-ext}
 use mathlib.Core.Logic.{_≢_}
-use mathlib.Core.Bool.{Bool, true, false, cond}
+use mathlib.Core.Bool.{Bool, cond}
 use mathlib.Core.List.{List, [], _∷_, _++_, map}
 use native.Mathlib.Omega.{arith}
 use lib.Dec.{eqb}
@@ -22,7 +22,7 @@ use Rattle.protocol.specs.Message as M
 use Rattle.protocol.specs.Local.{Local}
 use Rattle.protocol.specs.System.{System}
 use Rattle.protocol.specs.Rig as R
-use Rattle.model.specs.Tables.{at, put, cell}
+use Rattle.model.specs.Tables.{at, cell}
 use Rattle.model.specs.State.{Tables, isResting, isWaiting, isInside, seqIn, failedIn, sizeOf, hasMember, siteOf, modeOf, arbiterOf, heldOf, heirOf, inquiredOf, queuedOf, deskOf, withDesk}
 use Rattle.basics.proofs.Basics.{by-bool}
 use Rattle.model.proofs.Tables.{at-put, at-put-same, at-put-other, cell-put, length-put, Square, square-put}

@@ -1,7 +1,7 @@
 -- Every message that a rule sends is one of the seven kinds, with 0 where its kind has nothing to say: the machine's message gives
 -- it back.
-use Prim.Native.Nat.{ℕ, zero, suc, _+_, _≤_}
-use mathlib.Core.Path.{_≡_, refl, sym, _∙_, ap}
+use Prim.Native.Nat.{ℕ, zero, suc, _+_}
+use mathlib.Core.Path.{_≡_, refl}
 use mathlib.Core.Bool.{Bool, true, false, not, _&&_, cond}
 use mathlib.Core.List.{List, [], _∷_, _++_}
 use lib.Dec.{eqb}
@@ -14,7 +14,7 @@ use Rattle.rig.specs.Messages.{REQUEST, REPLY, RELEASE, INQUIRE, FAIL, YIELD, T
 use Rattle.protocol.specs.Message as M
 use Rattle.protocol.specs.Rig as R
 use Rattle.model.specs.Priority.{comesBefore}
-use Rattle.model.specs.Desk.{Effect, effect, has, waits, hasFailed, heldFor, heirFor, inquiredFor, queuedAt}
+use Rattle.model.specs.Desk.{Effect, has, waits, hasFailed, heldFor, heirFor, inquiredFor, queuedAt}
 use Rattle.model.specs.Ask.{requests, asked}
 use Rattle.model.specs.Leave.{handOn, handOns, left}
 use Rattle.model.specs.Arbiter.{grantOf, holderOf, holderKey, siteKey, headOf, heldBy, withQueued, without, transferOf, inquireOf, failTo, nextHeir, granted, grantedHead, clockRaised, formerTold, failFormer, inquireOrFail, answers, queuedUp, onRequest, inquireIfBefore, headNamed, heirTakesOver, holderReleases, fromHolder, isEarly, earlyRelease, onRelease, onYield}

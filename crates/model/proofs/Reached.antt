@@ -1,13 +1,13 @@
 -- Every state of a run is one of the machine: a refused event changes nothing, and an accepted one is a step of the machine.
-use Prim.Native.Nat.{ℕ, zero, suc, _+_, _-_, _≤_, _<_}
-use mathlib.Core.Path.{_≡_, refl, sym, _∙_, ap, fun-ext}
+use Prim.Native.Nat.{ℕ, _+_, _-_, _≤_, _<_}
+use mathlib.Core.Path.{_≡_, refl, sym, _∙_, ap}
 use mathlib.Core.Logic.{_≢_}
 use mathlib.Core.Bool.{Bool, true, false, not, _&&_, _||_, cond}
 use mathlib.Core.List.{List, [], _∷_, _++_, map}
 use mathlib.Core.Option.{Option, none, some}
 use native.Mathlib.Omega.{arith}
 use lib.Dec.{eqb, leb, ltb}
-use lib.ListN.{length, take, replicate, length-append, length-replicate}
+use lib.ListN.{length, replicate, length-append}
 use lib.Seq.{take-append-seam}
 use borrow.Author.Tests.{eqb-true, le-leb, leb-false, ltb-false}
 use Rattle.basics.specs.Helpers.{first, withoutFirst}
@@ -25,8 +25,6 @@ use Rattle.model.specs.Tables.{at}
 use Rattle.model.specs.Sets.{member}
 use Rattle.model.specs.State.{Tables, sizeOf, inRange, modeOf, isResting, isInside, deskOf, withDesk}
 use Rattle.model.specs.Desk.{Effect}
-use Rattle.model.specs.Ask.{asked}
-use Rattle.model.specs.Leave.{left}
 use Rattle.model.specs.Deliver.{between, delivered}
 use Rattle.model.specs.Shape.{messageShaped, wellShaped}
 use Rattle.model.specs.Event.{actor, sitesNamed, Attempt, refused, possible, takenOff, attempt, numbersFit, limitCode, Stored, underWay, blankMessage, padded, accepted, settled, judged, event}

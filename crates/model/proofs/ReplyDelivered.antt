@@ -1,30 +1,28 @@
 -- A reply delivered: the definitions and the machine come to the same state of the whole rig.
-use Prim.Native.Nat.{ℕ, zero, suc, _+_, _≤_, _<_}
-use mathlib.Core.Path.{_≡_, refl, sym, _∙_, ap, fun-ext}
+use Prim.Native.Nat.{ℕ, _≤_}
+use mathlib.Core.Path.{_≡_, refl, sym, _∙_, fun-ext}
 use mathlib.Core.Logic.{_≢_}
-use mathlib.Core.Bool.{Bool, true, false, not, _&&_, _||_, cond}
-use mathlib.Core.List.{List, [], _∷_, _++_, map}
+use mathlib.Core.Bool.{true, not, _&&_, cond}
+use mathlib.Core.List.{List, [], _++_, map}
 use native.Mathlib.Omega.{arith}
 use lib.Dec.{eqb}
-use lib.ListN.{length, replicate}
-use borrow.Author.Tests.{eqb-true, eqb-false, eq-eqb, ne-eqb}
-use Rattle.basics.specs.Helpers.{update, all}
+use lib.ListN.{length}
+use borrow.Author.Tests.{eqb-true, eqb-false, eq-eqb}
+use Rattle.basics.specs.Helpers.{update}
 use Rattle.basics.proofs.Basics.{by-bool, and-split, all-same, update-same, update-update}
-use Rattle.rig.specs.declared.Desk.{Desk}
 use Rattle.rig.specs.declared.Message.{Message}
 use Rattle.rig.specs.declared.Mode.the-variants.{Inside}
-use Rattle.rig.specs.Limits.{siteLimit, blankRow}
+use Rattle.rig.specs.Limits.{siteLimit}
 use Rattle.protocol.specs.Message as M
 use Rattle.protocol.specs.Local as P
 use Rattle.protocol.specs.Site as S
-use Rattle.protocol.specs.System.{settingOf}
 use Rattle.protocol.specs.Rig as R
 use Rattle.model.specs.Tables.{at, put, cell}
-use Rattle.model.specs.State.{Tables, isWaiting, failedIn, sizeOf, hasMember, siteOf, modeOf, arbiterOf, heldOf, heirOf, inquiredOf, queuedOf, deskOf, withDesk}
-use Rattle.model.specs.Desk.{has, hasFailed, heldFor, inquiredFor}
+use Rattle.model.specs.State.{Tables, isWaiting, failedIn, sizeOf, hasMember, siteOf, modeOf, heldOf, inquiredOf, deskOf, withDesk}
+use Rattle.model.specs.Desk.{hasFailed, inquiredFor}
 use Rattle.model.specs.Site.{failedSet, yielded, allHeld, entered, taken, enteredOrYielded, takes, onReply}
-use Rattle.model.proofs.Tables.{at-put, at-put-same, at-put-other, at-same, length-put}
-use Rattle.model.proofs.Machine.{modeNumber, systemOf, sitesOf, rowOf, sentOf, rigOf, localAt, Sized, DeskSized, desk-sized, sized-desk, waits-same, rig-path, update-self, map-append, sitesWith, clockWith, otherRow}
+use Rattle.model.proofs.Tables.{at-put-same, at-put-other, at-same, length-put}
+use Rattle.model.proofs.Machine.{systemOf, sitesOf, rowOf, sentOf, rigOf, localAt, Sized, desk-sized, waits-same, rig-path, update-self, map-append, sitesWith}
 use Rattle.model.proofs.SiteDelivered.{of-site, of-entry, nothing, columns, waiting-failed}
 
 module _ (t : Tables) (z : Sized t) (b : ℕ) (lo : 1 ≤ b) (hi : b ≤ siteLimit) (n : ℕ) (rest : List Message) (j : ℕ) (lj : 1 ≤ j) (hj : j ≤ siteLimit) (m : ℕ) where

@@ -1,19 +1,18 @@
 -- Laws of sets as numbers: what the code's shifts and its bitwise and say of them.
-use Prim.Native.Nat.{ℕ, zero, suc, _+_, _*_, _/_, _%_, _^_, min, _≤_, _<_}
-use mathlib.Core.Path.{_≡_, refl, sym, _∙_, ap}
+use Prim.Native.Nat.{ℕ, zero, suc, _/_, _%_, _^_, min, _≤_, _<_}
+use mathlib.Core.Path.{_≡_, refl}
 use mathlib.Core.Logic.{_≢_}
-use mathlib.Core.Bool.{Bool, true, false, not, _&&_}
+use mathlib.Core.Bool.{true, false, not, _&&_}
 use native.Mathlib.Omega.{arith}
 use lib.Dec.{eqb, ltb}
 use lib.Bits.{bitAnd, and-step, and-shr, and-le-l}
 use native.Mathlib.Nat.{div-lt-iff-lt-mul, zero-div}
 use lib.Arith.{digits-mod}
-use lib.Pow.{pow-pos, mod-pow-add}
-use borrow.Author.Tests.{eqb-true, eqb-false, eq-eqb, ne-eqb, lt-ltb, le-ltb, ltb-true, ltb-false}
+use lib.Pow.{pow-pos}
+use borrow.Author.Tests.{eqb-true, eqb-false, ne-eqb, lt-ltb, le-ltb, ltb-true, ltb-false}
 use Rattle.basics.specs.Helpers.{any}
 use Rattle.model.specs.Sets.{member, meet, names}
-use Rattle.basics.proofs.Basics.{by-bool, clash, and-split, and-second}
-use Rattle.basics.proofs.Basics.{any-at, any-of, any-none}
+use Rattle.basics.proofs.Basics.{by-bool, clash, and-split, and-second, any-of, any-none}
 
 -- bit i of the bitwise and is the smaller of the two bits
 and-bit : (a b i : ℕ) → bitAnd a b / 2 ^ i % 2 ≡ min (a / 2 ^ i % 2) (b / 2 ^ i % 2)

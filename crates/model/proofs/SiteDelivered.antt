@@ -1,10 +1,10 @@
 -- An inquire and a transfer delivered, and what a yield does: the definitions and the machine come to the same state of the whole
 -- rig. A site's rule changes what the site has, and of each arbiter's row the entries of that site alone.
-use Prim.Native.Nat.{ℕ, zero, suc, _+_, _≤_, _<_}
+use Prim.Native.Nat.{ℕ, _≤_}
 use mathlib.Core.Path.{_≡_, refl, sym, _∙_, ap, fun-ext}
 use mathlib.Core.Logic.{_≢_}
-use mathlib.Core.Bool.{Bool, true, false, not, _&&_, cond}
-use mathlib.Core.List.{List, [], _∷_, _++_, map}
+use mathlib.Core.Bool.{true, false}
+use mathlib.Core.List.{List, [], _++_, map}
 use native.Mathlib.Omega.{arith}
 use lib.Dec.{eqb}
 use lib.ListN.{length}
@@ -18,7 +18,6 @@ use Rattle.basics.specs.Helpers.{update}
 use Rattle.protocol.specs.Message as M
 use Rattle.protocol.specs.Local as P
 use Rattle.protocol.specs.Site as S
-use Rattle.protocol.specs.System.{settingOf}
 use Rattle.protocol.specs.Rig as R
 use Rattle.model.specs.Tables.{at, put, cell}
 use Rattle.model.specs.State.{Tables, isWaiting, seqIn, failedIn, siteOf, modeOf, arbiterOf, heldOf, heirOf, inquiredOf, queuedOf, deskOf, withDesk}
@@ -26,7 +25,7 @@ use Rattle.model.specs.Desk.{waits, hasFailed, heldFor, heirFor, inquire
 use Rattle.model.specs.Site.{failedSet, yielded, remembered, yieldedOrRemembered, onInquire, onTransfer}
 use Rattle.basics.proofs.Basics.{by-bool, clash}
 use Rattle.model.proofs.Tables.{at-put-same, at-put-other}
-use Rattle.model.proofs.Machine.{modeNumber, systemOf, sitesOf, rowOf, sentOf, rigOf, localAt, Sized, desk-sized, waits-same, rig-path, update-self, map-append, sitesWith, clockWith, otherRow, ownRow, rig-with}
+use Rattle.model.proofs.Machine.{systemOf, sitesOf, rowOf, sentOf, rigOf, localAt, Sized, desk-sized, waits-same, rig-path, update-self, map-append, sitesWith, clockWith, otherRow, rig-with}
 use Rattle.model.proofs.ArbiterDelivered.{sites-kept}
 
 -- what a site's rule leaves as it is: the arbiter's part of the desk

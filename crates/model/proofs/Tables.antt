@@ -1,19 +1,16 @@
 -- Laws of the definitions of specs/Tables: an entry read by its site's number, and tests over the sites 1 to n.
-use Prim.Native.Nat.{ℕ, zero, suc, _+_, _-_, _≤_, _<_}
-use mathlib.Core.Path.{_≡_, refl, sym, _∙_, ap, fun-ext}
-use mathlib.Core.Logic.{_⊎_, ⊎-elim, _≢_}
-use mathlib.Core.Bool.{Bool, true, false, _&&_, _||_}
+use Prim.Native.Nat.{ℕ, zero, suc, _-_, _≤_, _<_}
+use mathlib.Core.Path.{_≡_, refl, _∙_, ap}
+use mathlib.Core.Logic.{_≢_}
 use mathlib.Core.List.{List, []}
 use native.Mathlib.Omega.{arith}
-use native.Mathlib.Numerals.{add-one}
 use lib.Dec.{eqb}
 use lib.ListN.{length, getD, set, replicate, length-set, List·getD-eq-default}
 use lib.Seq.{getD-set-same, getD-set-other, set-getD}
 use borrow.Author.Tests.{eqb-true, eqb-false}
 use Rattle.basics.specs.Helpers.{update}
 use Rattle.model.specs.Tables.{at, put, cell}
-use Rattle.basics.specs.Helpers.{all, any}
-use Rattle.basics.proofs.Basics.{by-bool, clash, and-split, and-second, or-either, or-second}
+use Rattle.basics.proofs.Basics.{by-bool}
 
 module _ {A : Type 0} where
   -- the code's index of site k is k - 1

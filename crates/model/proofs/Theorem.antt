@@ -1,8 +1,8 @@
 -- Demand 3, for every run of the definitions.
-use Prim.Native.Nat.{ℕ, zero, suc, _+_, _≤_, _<_}
+use Prim.Native.Nat.{ℕ, zero, suc, _≤_, _<_}
 use mathlib.Core.Path.{_≡_, refl, sym, _∙_, ap, fun-ext}
 use mathlib.Core.Logic.{_≢_}
-use mathlib.Core.Bool.{Bool, true, false, not, _&&_, cond}
+use mathlib.Core.Bool.{Bool, true, false, not}
 use mathlib.Core.List.{List, [], _∷_, map}
 use native.Mathlib.Omega.{arith}
 use lib.Dec.{eqb}
@@ -15,7 +15,7 @@ use Rattle.rig.specs.declared.Message.{Message}
 use Rattle.rig.specs.declared.Event.{Event}
 use Rattle.rig.specs.declared.Mode.{Mode}
 use Rattle.rig.specs.declared.Site.{Site}
-use Rattle.rig.specs.Limits.{siteLimit, messageLimit, blankRow, blankTable}
+use Rattle.rig.specs.Limits.{siteLimit, blankRow, blankTable}
 use Rattle.protocol.specs.Message as M
 use Rattle.protocol.specs.System.{System}
 use Rattle.protocol.specs.Rig as R
@@ -25,7 +25,7 @@ use Rattle.protocol.proofs.RigKept as K
 use Rattle.protocol.proofs.Demand3 as D
 use Rattle.model.specs.Tables.{at, cell}
 use Rattle.model.specs.Setup.{setupCode, restingSite, freeArbiter, keptSets, freshRig}
-use Rattle.model.specs.State.{isWaiting, isInside, seqIn, failedIn, sizeOf, modeOf, heldOf, freshTables}
+use Rattle.model.specs.State.{isWaiting, isInside, seqIn, failedIn, sizeOf, modeOf, freshTables}
 use Rattle.model.specs.Event.{Stored, underWay}
 use Rattle.model.specs.Run.{fresh, run, freeAt, isOut, heldAt, isBack, places, insideCount, waitingCount, stuck, Sound, Demand3}
 use Rattle.model.proofs.Tables.{at-same, Square}

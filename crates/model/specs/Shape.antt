@@ -4,11 +4,10 @@
 -- Each table has a test of its own, and `wellShaped` is all of them. Every test goes over all the places of a table, those past N too:
 -- a site past N has an empty set, so that no arbiter is its member.
 use Prim.Native.Nat.{ℕ}
-use mathlib.Core.Bool.{Bool, true, false, not, _&&_, _||_, cond}
+use mathlib.Core.Bool.{Bool, true, false, _&&_, _||_, cond}
 use mathlib.Core.List.{List, [], _∷_}
-use lib.Dec.{eqb, leb, ltb}
+use lib.Dec.{eqb, leb}
 use lib.ListN.{length}
-use Rattle.rig.specs.declared.Arbiter.{Arbiter}
 use Rattle.rig.specs.declared.Site.{Site}
 use Rattle.rig.specs.declared.Mode.{Mode}
 use Rattle.rig.specs.declared.Mode.the-variants.{Rest, Waiting, Inside}

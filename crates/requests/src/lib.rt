@@ -13,7 +13,7 @@ use queue::requeued;
 use rig::Desk;
 use rig::Message;
 ghost use mathlib.Core.Path.{_≡_};
-ghost use Prim.Native.Nat.{_≤_, _<_};
+ghost use Prim.Native.Nat.{_≤_};
 ghost use Rattle.rig.specs.Limits.{siteLimit, Listed};
 ghost use Rattle.model.specs.Arbiter.{clockRaised, failFormer, inquireOrFail, answers, queuedUp, onRequest};
 ghost use Rattle.mail.specs.Did.{Did, Sent};

@@ -14,7 +14,9 @@ use Rattle.mail.specs.Rows.{messageOf}
 use Rattle.rig.specs.Limits.{eventLimit, messageLimit}
 use Rattle.model.specs.Tables.{cell}
 use Rattle.model.specs.Shape.{setsShaped, acceptedShaped, siteShaped, sitesShaped, holderShaped, arbiterShaped, arbitersShaped, heldShaped, inquiredShaped, heirShaped, queuedShaped, everywhere, tablesShaped, aboutShaped, messageShaped, messagesShaped, wellShaped}
-use Rattle.shape.specs.Parts.{tablesOf, tablesFor, stored, rowFits, heirsFit, queueFits, eachRow}
+use Rattle.members.specs.Ties.{tablesOf, tablesFor}
+use Rattle.shape.specs.Parts.{stored}
+use Rattle.table_shape.specs.Rows.{rowFits, heirsFit, queueFits, eachRow}
 
 pub tables-parts : (g : Rig) (a b c d : List (List ℕ)) → tablesShaped (stored g a b c d) ≡ setsShaped (tablesFor (g .size) (g .sets)) && (leb (g .accepted) eventLimit && (sitesShaped (tablesOf g) && (arbitersShaped (tablesOf g) && (eachRow (rowFits (g .sets)) a && (eachRow (heirsFit (g .sets)) b && (eachRow (rowFits (g .sets)) c && eachRow (queueFits (g .sets)) d))))))
 unfolding tablesShaped setsShaped acceptedShaped siteShaped sitesShaped holderShaped arbiterShaped arbitersShaped heldShaped inquiredShaped heirShaped queuedShaped everywhere cell

@@ -1,2 +1,2 @@
--- The tests of model/specs/Shape on the parts that the functions take.
+-- The tables as the functions take them.
 pub mod Parts

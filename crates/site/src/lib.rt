@@ -2,32 +2,15 @@
 use mail::Acted;
 use mail::Row;
 use rig::Desk;
-use rig::Message;
-ghost use Prim.Native.Nat.{_<_};
+ghost use Prim.Native.Nat.{_<_, _≤_, _+_};
 ghost use lib.ListN.{length};
-ghost use Rattle.model.specs.Site.{yielded, enteredOrYielded, onReply, yieldedOrRemembered, onInquire, yieldedIf, yieldedUpTo, onFail, onTransfer};
+ghost use Rattle.model.specs.Site.{enteredOrYielded, onReply, yieldedOrRemembered, onInquire, onFail, onTransfer};
 ghost use Rattle.mail.specs.Did.{Did};
-ghost use Rattle.rig.specs.Limits.{Listed};
-ghost use Rattle.site.specs.Asks.{Room};
-
-// The site yields arbiter j.
-fn yield_member(d: Desk, j: u64, out: &mut [Row], count: usize) -> Acted
-    requires { ⌜ Listed j × (count < length (now out)) ⌝ }
-    ensures { λ r. ⌜ Did (yielded d j) count (now (out .entry)) (now (out .exit)) r ⌝ }
-{
-    let i = (j - 1) as usize;
-    let g = d.held[i];
-    let n = mail::append(out, count, Message::yielding(d.number, j, g));
-    let mut e = entries::failed_set(d);
-    e.held[i] = 0;
-    e.heir[i] = 0;
-    e.inquired[i] = 0;
-    Acted { desk: e, count: n }
-}
+ghost use Rattle.rig.specs.Limits.{siteLimit, Listed};
 
 // What follows once a number is held for j: the site is inside, or yields j, or waits on.
 fn enter_or_yield(d: Desk, j: u64, out: &mut [Row], count: usize) -> Acted
-    requires { ⌜ Listed j × Room d 1 count (now out) ⌝ }
+    requires { ⌜ Listed j × (d .size ≤ siteLimit) × (count < length (now out)) ⌝ }
     ensures { λ r. ⌜ Did (enteredOrYielded d j) count (now (out .entry)) (now (out .exit)) r ⌝ }
 {
     if entries::all_held(d) {
@@ -37,7 +20,7 @@ fn enter_or_yield(d: Desk, j: u64, out: &mut [Row], count: usize) -> Acted
         };
     }
     let s = d.site;
-    if !entries::has_failed(s) {
+    if !modes::has_failed(s) {
         return Acted {
             desk: d,
             count: count,
@@ -51,22 +34,22 @@ fn enter_or_yield(d: Desk, j: u64, out: &mut [Row], count: usize) -> Acted
             count: count,
         };
     }
-    yield_member(d, j, out, count)
+    yields::yield_member(d, j, out, count)
 }
 
 // An inner call: a reply about j, with number n.
 pub fn on_reply(d: Desk, j: u64, n: u64, out: &mut [Row], count: usize) -> Acted
-    requires { ⌜ Listed j × Room d 1 count (now out) ⌝ }
+    requires { ⌜ Listed j × (d .size ≤ siteLimit) × (count < length (now out)) ⌝ }
     ensures { λ r. ⌜ Did (onReply d j n) count (now (out .entry)) (now (out .exit)) r ⌝ }
 {
     let s = d.site;
-    if !entries::is_waiting(s) {
+    if !modes::is_waiting(s) {
         return Acted {
             desk: d,
             count: count,
         };
     }
-    if !entries::has(d.members, j) {
+    if !members::is_member(d.members, j) {
         return Acted {
             desk: d,
             count: count,
@@ -104,8 +87,8 @@ fn yield_or_remember(d: Desk, j: u64, n: u64, out: &mut [Row], count: usize) -> 
         };
     }
     let s = d.site;
-    if entries::has_failed(s) {
-        return yield_member(d, j, out, count);
+    if modes::has_failed(s) {
+        return yields::yield_member(d, j, out, count);
     }
     Acted {
         desk: entries::remember(d, j, n),
@@ -119,7 +102,7 @@ pub fn on_inquire(d: Desk, j: u64, n: u64, out: &mut [Row], count: usize) -> Act
     ensures { λ r. ⌜ Did (onInquire d j n) count (now (out .entry)) (now (out .exit)) r ⌝ }
 {
     let s = d.site;
-    if !entries::is_waiting(s) {
+    if !modes::is_waiting(s) {
         return Acted {
             desk: d,
             count: count,
@@ -128,50 +111,19 @@ pub fn on_inquire(d: Desk, j: u64, n: u64, out: &mut [Row], count: usize) -> Act
     yield_or_remember(d, j, n, out, count)
 }
 
-// One turn of `yield_members`: j is yielded, if it is held with a remembered inquire.
-fn yield_if(d: Desk, j: u64, out: &mut [Row], count: usize) -> Acted
-    requires { ⌜ Listed j × (count < length (now out)) ⌝ }
-    ensures { λ r. ⌜ Did (yieldedIf d j) count (now (out .entry)) (now (out .exit)) r ⌝ }
-{
-    if entries::must_yield(d, j) {
-        return yield_member(d, j, out, count);
-    }
-    Acted {
-        desk: d,
-        count: count,
-    }
-}
-
-// Every held member with a remembered inquire is yielded, ascending.
-fn yield_members(d: Desk, out: &mut [Row], count: usize) -> Acted
-    requires { ⌜ Room d 31 count (now out) ⌝ }
-    ensures { λ r. ⌜ Did (yieldedUpTo d (d .size)) count (now (out .entry)) (now (out .exit)) r ⌝ }
-{
-    let mut a = Acted {
-        desk: d,
-        count: count,
-    };
-    for i in 0..d.size {
-        let e = a.desk;
-        let b = yield_if(e, i + 1, out, a.count);
-        a = b;
-    }
-    a
-}
-
 // An inner call: a fail.
 pub fn on_fail(d: Desk, out: &mut [Row], count: usize) -> Acted
-    requires { ⌜ Room d 31 count (now out) ⌝ }
+    requires { ⌜ (d .size ≤ siteLimit) × (count + 31 ≤ length (now out)) ⌝ }
     ensures { λ r. ⌜ Did (onFail d) count (now (out .entry)) (now (out .exit)) r ⌝ }
 {
     let s = d.site;
-    if !entries::is_waiting(s) {
+    if !modes::is_waiting(s) {
         return Acted {
             desk: d,
             count: count,
         };
     }
-    yield_members(entries::failed_set(d), out, count)
+    yields::yield_members(entries::failed_set(d), out, count)
 }
 
 // An inner call: a transfer from j that names x, with number n.

@@ -3,8 +3,6 @@ use borrow.Author.Needs.{needs}
 use Rattle.model.specs.Ask.{asked}
 use Rattle.asking.proofs.ask.Statement.{statement}
 use Rattle.asking.proofs.ask.Tie as tie
-use Rattle.asking.proofs.cleared.Reads as cleared-reads
-use Rattle.asking.proofs.request_members.Reads as request-members-reads
 
 add-seq : tie.Need-add-seq
 add-seq c = search needs

@@ -6,9 +6,6 @@ use Rattle.model.specs.Leave.{handOn}
 use Rattle.mail.proofs.Sending.{sent-one, sent-more}
 use Rattle.asking.proofs.hand_on.Statement.{statement}
 use Rattle.asking.proofs.hand_on.Tie as tie
-use Rattle.mail.proofs.append.Reads as append-reads
-use Rattle.rig.proofs.Message.release.Reads as release-reads
-use Rattle.rig.proofs.Message.reply.Reads as reply-reads
 
 release-requires : tie.Need-release-requires
 release-requires c κs = search needs

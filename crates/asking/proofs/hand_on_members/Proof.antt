@@ -13,7 +13,6 @@ use Rattle.asking.proofs.Sends.{handOns-short}
 use Rattle.mail.proofs.Sending.{sent-none, sent-more}
 use Rattle.asking.proofs.hand_on_members.Statement.{statement}
 use Rattle.asking.proofs.hand_on_members.Tie as tie
-use Rattle.asking.proofs.hand_on_member.Reads as hand-on-member-reads
 
 abbrev Inv-loop : tie.InvT-loop
 Inv-loop out₀ count d n₀ i₀ i-end out n i =
@@ -38,6 +37,9 @@ mul-g c = search needs
 element-copy-out-g : tie.Need-element-copy-out-g Inv-loop μ-loop
 element-copy-out-g c = search needs
 
+add-hand-on-member : tie.Need-add-hand-on-member Inv-loop μ-loop
+add-hand-on-member c = search needs
+
 hand-on-member-requires : tie.Need-hand-on-member-requires Inv-loop μ-loop
 unfolding at
 hand-on-member-requires c κs =
@@ -45,7 +47,7 @@ hand-on-member-requires c κs =
     let s = c .before .before .before .before .before in
     let h = handOns-short (s .args .t1) (l .i) in
     let n = l .inv .0 .count in
-    (omega arith, s .pre .held (suc (l .i)) (omega arith) (omega arith), omega arith)
+    (s .pre .held (suc (l .i)) (omega arith) (omega arith), omega arith)
 
 add-i : tie.Need-add-i Inv-loop μ-loop
 add-i c = search needs
@@ -58,7 +60,7 @@ unfolding handOns at
 loop-again c =
     let l = c .before .before .before .before .before .before .loop in
     let t = c .before .hand-on-member in
-    (rw add-one (sent-more (l .inv .0) (t .ensures)), omega arith, refl, t .kept .1 .1 .1 .1 .1 .0 ∙ l .inv .3)
+    (rw add-one (sent-more (l .inv .0) (rw add-one at (t .ensures))), omega arith, refl, t .kept .1 .1 .1 .1 .1 .0 ∙ l .inv .3)
 
 same-length : tie.Need-same-length Inv-loop μ-loop
 same-length c = c .before .loop .inv .3
@@ -77,6 +79,7 @@ hand-on-members-spec =
     element-copy-out-k
     mul-g
     element-copy-out-g
+    add-hand-on-member
     hand-on-member-requires
     add-i
     loop-less

@@ -3,8 +3,6 @@ use borrow.Author.Needs.{needs}
 use Rattle.model.specs.Leave.{left}
 use Rattle.asking.proofs.leave.Statement.{statement}
 use Rattle.asking.proofs.leave.Tie as tie
-use Rattle.asking.proofs.cleared.Reads as cleared-reads
-use Rattle.asking.proofs.hand_on_members.Reads as hand-on-members-reads
 
 hand-on-members-requires : tie.Need-hand-on-members-requires
 hand-on-members-requires c κs = search needs

@@ -12,7 +12,6 @@ use Rattle.asking.proofs.Sends.{requests-short}
 use Rattle.mail.proofs.Sending.{sent-none, sent-more}
 use Rattle.asking.proofs.request_members.Statement.{statement}
 use Rattle.asking.proofs.request_members.Tie as tie
-use Rattle.asking.proofs.request_member.Reads as request-member-reads
 
 abbrev Inv-loop : tie.InvT-loop
 Inv-loop d seq out₀ count n₀ m₀ m-end out n m =
@@ -25,13 +24,16 @@ loop-holds : tie.Need-loop-holds Inv-loop μ-loop
 unfolding requests
 loop-holds c = (sent-none, omega arith, refl, refl)
 
+add-request-member : tie.Need-add-request-member Inv-loop μ-loop
+add-request-member c = search needs
+
 request-member-requires : tie.Need-request-member-requires Inv-loop μ-loop
 request-member-requires c κs =
     let l = c .before .before .loop in
     let a = c .before .before .before .args in
     let h = requests-short (a .d) (a .seq) (l .m) in
     let n = l .inv .0 .count in
-    (omega arith, omega arith)
+    omega arith
 
 add-m : tie.Need-add-m Inv-loop μ-loop
 add-m c = search needs
@@ -44,7 +46,7 @@ unfolding requests
 loop-again c =
     let l = c .before .before .before .before .loop in
     let t = c .before .request-member in
-    (rw add-one (sent-more (l .inv .0) (t .ensures)), omega arith, refl, t .kept .1 .1 .1 .1 .0 ∙ l .inv .3)
+    (rw add-one (sent-more (l .inv .0) (rw add-one at (t .ensures))), omega arith, refl, t .kept .1 .1 .1 .1 .0 ∙ l .inv .3)
 
 same-length : tie.Need-same-length Inv-loop μ-loop
 same-length c = c .before .loop .inv .3
@@ -59,6 +61,7 @@ request-members-spec =
     Inv-loop
     μ-loop
     loop-holds
+    add-request-member
     request-member-requires
     add-m
     loop-less

@@ -19,8 +19,8 @@ use Rattle.attempts.proofs.ask.Tie as tie
 use Rattle.accepting.proofs.conclude.Reads as conclude-reads
 use Rattle.asking.proofs.ask.Reads as ask-reads
 use Rattle.desks.proofs.desk.Reads as desk-reads
-use Rattle.attempts.proofs.is_resting.Reads as is-resting-reads
-use Rattle.attempts.proofs.is_site.Reads as is-site-reads
+use Rattle.modes.proofs.is_resting.Reads as is-resting-reads
+use Rattle.ranges.proofs.is_site.Reads as is-site-reads
 
 is-site-requires : tie.Need-is-site-requires
 is-site-requires c κs = search needs

@@ -23,7 +23,7 @@ use Rattle.attempts.proofs.deliver.Tie as tie
 use Rattle.accepting.proofs.conclude.Reads as conclude-reads
 use Rattle.delivery.proofs.deliver.Reads as deliver-reads
 use Rattle.desks.proofs.desk.Reads as desk-reads
-use Rattle.attempts.proofs.is_site.Reads as is-site-reads
+use Rattle.ranges.proofs.is_site.Reads as is-site-reads
 use Rattle.mail.proofs.first.Reads as first-reads
 use Rattle.mail.proofs.message.Reads as message-reads
 

@@ -20,8 +20,8 @@ use Rattle.attempts.proofs.leave.Tie as tie
 use Rattle.accepting.proofs.conclude.Reads as conclude-reads
 use Rattle.asking.proofs.leave.Reads as leave-reads
 use Rattle.desks.proofs.desk.Reads as desk-reads
-use Rattle.attempts.proofs.is_inside.Reads as is-inside-reads
-use Rattle.attempts.proofs.is_site.Reads as is-site-reads
+use Rattle.modes.proofs.is_inside.Reads as is-inside-reads
+use Rattle.ranges.proofs.is_site.Reads as is-site-reads
 
 is-site-requires : tie.Need-is-site-requires
 is-site-requires c κs = search needs

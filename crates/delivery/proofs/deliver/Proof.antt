@@ -4,13 +4,6 @@ use Rattle.mail.proofs.Sending.{sent-none, did-sent}
 use Rattle.delivery.proofs.ByKind.{of-request, of-reply, of-release, of-inquire, of-fail, of-yield, of-transfer, of-no-kind}
 use Rattle.delivery.proofs.deliver.Statement.{statement}
 use Rattle.delivery.proofs.deliver.Tie as tie
-use Rattle.releases.proofs.on_release.Reads as on-release-reads
-use Rattle.releases.proofs.on_yield.Reads as on-yield-reads
-use Rattle.requests.proofs.on_request.Reads as on-request-reads
-use Rattle.site.proofs.on_fail.Reads as on-fail-reads
-use Rattle.site.proofs.on_inquire.Reads as on-inquire-reads
-use Rattle.site.proofs.on_reply.Reads as on-reply-reads
-use Rattle.site.proofs.on_transfer.Reads as on-transfer-reads
 
 on-request-requires : tie.Need-on-request-requires
 on-request-requires c κs = search needs
@@ -22,7 +15,7 @@ returns : tie.Need-returns
 returns c = rw (of-request (c .before .before .before .before .before .args .d) (c .before .before .before .before .before .args .m) (c .before .before .before .if1 .taken)) (c .before .on-request .ensures)
 
 on-reply-requires : tie.Need-on-reply-requires
-on-reply-requires c κs = (c .before .before .before .before .before .pre .arbiter (c .before .if2 .taken), search needs)
+on-reply-requires c κs = (c .before .before .before .before .before .pre .arbiter (c .before .if2 .taken), search needs, search needs)
 
 same-length-2 : tie.Need-same-length-2
 same-length-2 c = search needs

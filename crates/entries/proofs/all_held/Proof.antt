@@ -4,6 +4,7 @@ use mathlib.Core.Path.{_≡_, refl, sym, _∙_}
 use mathlib.Core.Bool.{true, not, _||_}
 use native.Mathlib.Omega.{arith}
 use native.Mathlib.Nat.{le-antisymm}
+use native.Mathlib.Numerals.{add-one}
 use lib.Dec.{eqb}
 use borrow.Author.Tests.{not-true, not-false}
 use borrow.Author.Needs.{needs}
@@ -14,7 +15,6 @@ use Rattle.model.specs.Desk.{has, heldFor}
 use Rattle.model.specs.Site.{allHeld}
 use Rattle.entries.proofs.all_held.Statement.{statement}
 use Rattle.entries.proofs.all_held.Tie as tie
-use Rattle.entries.proofs.outside_or_held.Reads as outside-or-held-reads
 
 abbrev Inv-loop : tie.InvT-loop
 Inv-loop d i₀ i-end i =
@@ -33,6 +33,9 @@ mul-g c = search needs
 element-copy-out-g : tie.Need-element-copy-out-g Inv-loop μ-loop
 element-copy-out-g c = search needs
 
+add-outside-or-held : tie.Need-add-outside-or-held Inv-loop μ-loop
+add-outside-or-held c = search needs
+
 outside-or-held-requires : tie.Need-outside-or-held-requires Inv-loop μ-loop
 outside-or-held-requires c κs = search needs
 
@@ -41,7 +44,7 @@ unfolding allHeld at
 returns c =
     let n = c .before .before .before .before .before .args .t1 .size in
     let i = c .before .before .before .before .loop .i in
-    sym (all-fails _ n (suc i) (omega arith) (omega arith) (sym (c .before .outside-or-held .ensures) ∙ not-true _ (c .if1 .taken)))
+    sym (all-fails _ n (suc i) (omega arith) (omega arith) (sym (rw add-one at (c .before .outside-or-held .ensures)) ∙ not-true _ (c .if1 .taken)))
 
 add-i : tie.Need-add-i Inv-loop μ-loop
 add-i c = search needs
@@ -53,7 +56,7 @@ loop-again : tie.Need-loop-again Inv-loop μ-loop
 unfolding at
 loop-again c =
     let l = c .before .before .before .before .loop in
-    (all-more _ (l .i) (l .inv .0) (sym (c .before .outside-or-held .ensures) ∙ not-false _ (c .if1 .left)), omega arith, refl)
+    (all-more _ (l .i) (l .inv .0) (sym (rw add-one at (c .before .outside-or-held .ensures)) ∙ not-false _ (c .if1 .left)), omega arith, refl)
 
 returns-2 : tie.Need-returns-2 Inv-loop μ-loop
 unfolding allHeld
@@ -68,6 +71,7 @@ all-held-spec =
     loop-holds
     mul-g
     element-copy-out-g
+    add-outside-or-held
     outside-or-held-requires
     returns
     add-i

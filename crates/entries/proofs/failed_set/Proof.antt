@@ -3,7 +3,6 @@ use borrow.Author.Needs.{needs}
 use Rattle.model.specs.Site.{failedSet}
 use Rattle.entries.proofs.failed_set.Statement.{statement}
 use Rattle.entries.proofs.failed_set.Tie as tie
-use Rattle.entries.proofs.seq_in.Reads as seq-in-reads
 
 seq-in-requires : tie.Need-seq-in-requires
 seq-in-requires c κs = search needs

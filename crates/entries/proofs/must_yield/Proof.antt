@@ -6,14 +6,13 @@ use Rattle.model.proofs.Tables.{at-read}
 use Rattle.model.specs.Site.{taken, mustYield}
 use Rattle.entries.proofs.must_yield.Statement.{statement}
 use Rattle.entries.proofs.must_yield.Tie as tie
-use Rattle.entries.proofs.has.Reads as has-reads
 
-has-requires : tie.Need-has-requires
-has-requires c κs = search needs
+is-member-requires : tie.Need-is-member-requires
+is-member-requires c κs = search needs
 
 returns : tie.Need-returns
 unfolding mustYield
-returns c = rw (sym (c .before .has .ensures) ∙ not-true _ (c .if1 .taken))
+returns c = rw (sym (c .before .is-member .ensures) ∙ not-true _ (c .if1 .taken))
 
 sub-i : tie.Need-sub-i
 sub-i c = search needs
@@ -28,7 +27,7 @@ returns-2 : tie.Need-returns-2
 unfolding mustYield
 returns-2 c =
     let d = c .before .before .before .before .args .t1 in
-    rw (sym (c .before .before .before .has .ensures) ∙ not-false _ (c .before .before .if1 .left), at-read 0 (d .held) _ (c .before .before .before .before .pre .low), c .if2 .taken)
+    rw (sym (c .before .before .before .is-member .ensures) ∙ not-false _ (c .before .before .if1 .left), at-read 0 (d .held) _ (c .before .before .before .before .pre .low), c .if2 .taken)
 
 mul-q : tie.Need-mul-q
 mul-q c = search needs
@@ -41,13 +40,13 @@ unfolding mustYield
 returns-3 c =
     let d = c .before .before .before .before .before .args .t1 in
     let low = c .before .before .before .before .before .pre .low in
-    rw (sym (c .before .before .before .before .has .ensures) ∙ not-false _ (c .before .before .before .if1 .left), at-read 0 (d .held) _ low, ne-eqb _ _ (c .before .if2 .left), at-read 0 (d .inquired) _ low)
+    rw (sym (c .before .before .before .before .is-member .ensures) ∙ not-false _ (c .before .before .before .if1 .left), at-read 0 (d .held) _ low, ne-eqb _ _ (c .before .if2 .left), at-read 0 (d .inquired) _ low)
 
 pub must-yield-spec : {M : Type 1} → statement M
 must-yield-spec =
     tie.close
     (tie.spec
-    has-requires
+    is-member-requires
     returns
     sub-i
     mul-g

@@ -4,7 +4,6 @@ use Rattle.model.proofs.Tables.{at-read, put-write}
 use Rattle.model.specs.Site.{taken}
 use Rattle.entries.proofs.take.Statement.{statement}
 use Rattle.entries.proofs.take.Tie as tie
-use Rattle.entries.proofs.kept_inquire.Reads as kept-inquire-reads
 
 sub-i : tie.Need-sub-i
 sub-i c = search needs

@@ -3,19 +3,19 @@ use mathlib.Core.Path.{sym, _∙_}
 use borrow.Author.Tests.{eq-eqb, ne-eqb}
 use borrow.Author.Needs.{needs}
 use Rattle.basics.proofs.Basics.{or-second}
-use Rattle.families.specs.declared.Family.the-variants.{Billiard}
+use Rattle.billiard.specs.Billiard.{qListed, qComputed}
 use Rattle.families.specs.Family.{listed, computed, billiardSet}
 use Rattle.families.proofs.Parameters.{listed-computed}
 use Rattle.families.proofs.billiard_set.Statement.{statement}
 use Rattle.families.proofs.billiard_set.Tie as tie
 
 set-at-requires : tie.Need-set-at-requires
-unfolding computed
-set-at-requires c κs = or-second (listed (Billiard _)) _ (eq-eqb _ _ (c .if1 .taken))
+unfolding computed qComputed
+set-at-requires c κs = or-second (qListed (c .before .args .q)) _ (eq-eqb _ _ (c .if1 .taken))
 
 returns : tie.Need-returns
-unfolding billiardSet computed
-returns c = rw (or-second (listed (Billiard _)) _ (eq-eqb _ _ (c .before .if1 .taken))) (c .set-at .ensures)
+unfolding billiardSet computed qComputed
+returns c = rw (or-second (qListed (c .before .before .args .q)) _ (eq-eqb _ _ (c .before .if1 .taken))) (c .set-at .ensures)
 
 is-listed-requires : tie.Need-is-listed-requires
 is-listed-requires c κs = search needs
@@ -28,7 +28,7 @@ unfolding billiardSet
 returns-2 c = rw (listed-computed _ (sym (c .before .before .is-listed .ensures) ∙ c .before .if2 .taken)) (c .set-at2 .ensures)
 
 returns-3 : tie.Need-returns-3
-unfolding billiardSet computed
+unfolding billiardSet computed qComputed listed
 returns-3 c = rw (sym (c .before .is-listed .ensures) ∙ c .if2 .left, ne-eqb _ _ (c .before .before .if1 .left))
 
 pub billiard-set-spec : {M : Type 1} → statement M

@@ -3,7 +3,7 @@ use Prim.Native.Nat.{_+_, _≤_}
 use native.Mathlib.Nat.{mul-le-mul}
 use native.Mathlib.Omega.{arith}
 use borrow.Author.Needs.{needs}
-use Rattle.families.specs.Family.{sizeOf, widthOf, entry}
+use Rattle.families.specs.Family.{computed, sizeOf, widthOf, entry}
 use Rattle.families.proofs.Parameters.{side-bounds, p-bounds}
 use Rattle.families.proofs.entry.Statement.{statement}
 use Rattle.families.proofs.entry.Tie as tie
@@ -23,7 +23,7 @@ enum-known-family-2 : tie.Need-enum-known-family-2
 enum-known-family-2 c = search needs
 
 billiard-entry-requires : tie.Need-billiard-entry-requires
-unfolding sizeOf widthOf
+unfolding computed sizeOf widthOf
 billiard-entry-requires c κs = rw (c .before .family2 .given .1) at (c .before .before .before .pre)
 
 enum-known-family-3 : tie.Need-enum-known-family-3

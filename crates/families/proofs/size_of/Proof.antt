@@ -2,9 +2,10 @@
 use Prim.Native.Nat.{_+_}
 use native.Mathlib.Omega.{arith}
 use borrow.Author.Needs.{needs}
-use Rattle.families.specs.Family.{sizeOf}
-use Rattle.families.proofs.Bounds.{product, square-least}
-use Rattle.families.proofs.Parameters.{side-bounds, q-bounds, p-bounds}
+use Rattle.families.specs.Family.{computed, sizeOf}
+use Rattle.basics.proofs.Numbers.{product, square-least}
+use Rattle.families.proofs.Parameters.{side-bounds, p-bounds}
+use Rattle.billiard.proofs.Parameters.{q-bounds}
 use Rattle.families.proofs.size_of.Statement.{statement}
 use Rattle.families.proofs.size_of.Tie as tie
 
@@ -20,11 +21,13 @@ enum-known-family-2 : tie.Need-enum-known-family-2
 enum-known-family-2 c = search needs
 
 mul-result-2 : tie.Need-mul-result-2
+unfolding computed
 mul-result-2 c =
     let l = q-bounds _ (rw (c .before .family2 .given .1) at (c .before .before .before .pre)) in
     omega (arith, product (c .before .family2 .given .0 .0) (c .before .family2 .given .0 .0) (omega arith) (omega arith))
 
 sub-result : tie.Need-sub-result
+unfolding computed
 sub-result c =
     let l = q-bounds _ (rw (c .before .family2 .given .1) at (c .before .before .before .pre)) in
     omega (arith, square-least (c .before .family2 .given .0 .0) (omega arith))

@@ -1,6 +1,6 @@
 -- `all_numbers`: each number so far is in range.
 use Prim.Native.Nat.{_≤_, _-_}
-use mathlib.Core.Path.{_≡_, sym, _∙_}
+use mathlib.Core.Path.{_≡_, refl, sym, _∙_}
 use mathlib.Core.Bool.{true}
 use mathlib.Core.List.{map}
 use native.Mathlib.Omega.{arith}
@@ -11,13 +11,12 @@ use denote.Ref.{now}
 use lib.ListN.{take}
 use lib.Seq.{take-all}
 use Rattle.mail.specs.Rows.{messageOf}
+use Rattle.model.specs.Shape.{isNumber}
 use Rattle.model.specs.Event.{allNumbers}
-use Rattle.limits.proofs.Numbered.{numbers-more, numbers-fail}
+use Rattle.mail.proofs.Tests.{each-more, each-fails}
 use borrow.Author.Needs.{needs}
 use Rattle.limits.proofs.all_numbers.Statement.{statement}
 use Rattle.limits.proofs.all_numbers.Tie as tie
-use Rattle.mail.proofs.message.Reads as message-reads
-use Rattle.shape.proofs.is_number.Reads as is-number-reads
 
 abbrev Inv-loop : tie.InvT-loop
 Inv-loop sent n i₀ i = (i ≤ n) × (allNumbers (map messageOf (take i sent)) ≡ true)
@@ -48,10 +47,11 @@ is-number-requires : tie.Need-is-number-requires Inv-loop μ-loop
 is-number-requires c κs = search needs
 
 returns-2 : tie.Need-returns-2 Inv-loop μ-loop
+unfolding allNumbers
 returns-2 c =
     let l = c .before .before .before .before .before .before .loop in
     let a = c .before .before .before .before .before .before .before .args in
-    sym (numbers-fail (now (a .sent)) (a .n) (l .i) (omega arith) (omega arith) (sym (rw (c .before .before .message .ensures) at (c .before .is-number .ensures)) ∙ not-true _ (c .if2 .taken)))
+    sym (each-fails (λ m. isNumber (m .number)) allNumbers refl (λ m ms. refl) (now (a .sent)) (a .n) (l .i) (omega arith) (omega arith) (sym (rw (c .before .before .message .ensures) at (c .before .is-number .ensures)) ∙ not-true _ (c .if2 .taken)))
 
 add-i : tie.Need-add-i Inv-loop μ-loop
 add-i c = search needs
@@ -60,10 +60,11 @@ loop-less : tie.Need-loop-less Inv-loop μ-loop
 loop-less c = search needs
 
 loop-again : tie.Need-loop-again Inv-loop μ-loop
+unfolding allNumbers
 loop-again c =
     let l = c .before .before .before .before .before .before .loop in
     let a = c .before .before .before .before .before .before .before .args in
-    (omega arith, rw add-one (numbers-more (now (a .sent)) (l .i) (omega arith) (l .inv .1) (sym (rw (c .before .before .message .ensures) at (c .before .is-number .ensures)) ∙ not-false _ (c .if2 .left))))
+    (omega arith, rw add-one (each-more (λ m. isNumber (m .number)) allNumbers refl (λ m ms. refl) (now (a .sent)) (l .i) (omega arith) (l .inv .1) (sym (rw (c .before .before .message .ensures) at (c .before .is-number .ensures)) ∙ not-false _ (c .if2 .left))))
 
 returns-3 : tie.Need-returns-3 Inv-loop μ-loop
 returns-3 c = sym (rw (le-antisymm (c .before .loop .inv .0) (c .loop-test .left)) at (c .before .loop .inv .1))

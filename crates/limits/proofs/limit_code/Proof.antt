@@ -10,8 +10,6 @@ use Rattle.limits.proofs.Codes.{spent, too-large, in-range}
 use borrow.Author.Needs.{needs}
 use Rattle.limits.proofs.limit_code.Statement.{statement}
 use Rattle.limits.proofs.limit_code.Tie as tie
-use Rattle.limits.proofs.all_numbers.Reads as all-numbers-reads
-use Rattle.shape.proofs.is_number.Reads as is-number-reads
 
 returns : tie.Need-returns
 returns c = sym (spent _ _ _ _ _ _ (c .if1 .taken))

@@ -1,8 +1,8 @@
 -- `clear_from`: after k turns, k rows are blank.
 use Prim.Native.Nat.{ℕ, _≤_, _+_, _-_}
-use mathlib.Core.Path.{_≡_, refl, _∙_}
+use mathlib.Core.Path.{_≡_, refl, ap, _∙_}
 use native.Mathlib.Omega.{arith}
-use lib.ListN.{length, length-set, replicate}
+use lib.ListN.{length, set, length-set, replicate}
 use lib.Seq.{paste, paste-zero}
 use Rattle.mail.specs.Places.{zeroRow}
 use Rattle.mail.proofs.Clear.{clear-step, clear-done}
@@ -41,7 +41,7 @@ loop-again c =
       omega arith,
       omega arith,
       simp length-set (i .4),
-      rw (i .1) (clear-step l (p .before .args .from) (length l - p .before .args .from) zeroRow (p .loop .list) (i .0) (omega arith) (omega arith) (i .5)),
+      ap (λ (n : ℕ). set (p .loop .list) n zeroRow) (i .1) ∙ clear-step l (p .before .args .from) (length l - p .before .args .from) zeroRow (p .loop .list) (i .0) (omega arith) (omega arith) (i .5),
     )
 
 same-length : tie.Need-same-length Inv-loop μ-loop

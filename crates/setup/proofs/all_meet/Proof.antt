@@ -1,5 +1,5 @@
 -- `all_meet`: each set passed so far meets each earlier one.
-use Prim.Native.Nat.{suc, _+_, _≤_, _-_}
+use Prim.Native.Nat.{suc, _≤_, _-_}
 use mathlib.Core.Path.{_≡_, sym, _∙_}
 use mathlib.Core.Bool.{true}
 use native.Mathlib.Omega.{arith}
@@ -12,7 +12,6 @@ use Rattle.model.specs.Setup.{meetsEarlier, allMeet}
 use Rattle.basics.proofs.Basics.{all-fails, all-more}
 use Rattle.setup.proofs.all_meet.Statement.{statement}
 use Rattle.setup.proofs.all_meet.Tie as tie
-use Rattle.setup.proofs.meets_earlier.Reads as meets-earlier-reads
 
 abbrev Inv-loop : tie.InvT-loop
 Inv-loop size sets k₀ k = (k ≤ size) × (all (meetsEarlier size sets) k ≡ true)

@@ -1,5 +1,5 @@
 -- `all_name`: each set passed so far names sites 1 to N only.
-use Prim.Native.Nat.{suc, _+_, _≤_, _-_}
+use Prim.Native.Nat.{suc, _≤_, _-_}
 use mathlib.Core.Path.{_≡_, sym, _∙_}
 use mathlib.Core.Bool.{true}
 use native.Mathlib.Omega.{arith}
@@ -13,7 +13,6 @@ use Rattle.model.specs.Setup.{allName}
 use Rattle.basics.proofs.Basics.{all-fails, all-more}
 use Rattle.setup.proofs.all_name.Statement.{statement}
 use Rattle.setup.proofs.all_name.Tie as tie
-use Rattle.setup.proofs.names_sites.Reads as names-sites-reads
 
 abbrev Inv-loop : tie.InvT-loop
 Inv-loop size sets i₀ i = (i ≤ size) × (all (λ k. names size (at 0 sets k)) i ≡ true)

@@ -1,16 +1,12 @@
 -- `judge`: the four tests in their order.
-use Prim.Native.Nat.{_≤_}
-use mathlib.Core.Path.{_≡_, refl, sym, _∙_}
-use mathlib.Core.Bool.{true, false, not, _&&_}
+use mathlib.Core.Path.{sym, _∙_}
 use native.Mathlib.Omega.{arith}
 use borrow.Author.Needs.{needs}
-use borrow.Author.Tests.{eq-eqb, ne-eqb, le-leb, lt-leb, not-true, not-false}
+use borrow.Author.Tests.{eq-eqb, ne-eqb, not-true, not-false}
 use Rattle.model.specs.Setup.{sizeListed, setupCode}
 use Rattle.model.proofs.Setup.{size-listed, size-too-large}
 use Rattle.setup.proofs.judge.Statement.{statement}
 use Rattle.setup.proofs.judge.Tie as tie
-use Rattle.setup.proofs.all_meet.Reads as all-meet-reads
-use Rattle.setup.proofs.all_name.Reads as all-name-reads
 
 returns : tie.Need-returns
 unfolding setupCode sizeListed

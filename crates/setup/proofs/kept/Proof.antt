@@ -1,13 +1,13 @@
 -- `kept`: the sets passed so far, and 0 in the places after them.
 use Prim.Native.Nat.{ℕ, suc, _+_, _≤_, _<_, _-_}
-use mathlib.Core.Path.{_≡_, refl, sym, _∙_, ap}
-use mathlib.Core.List.{List, [], _∷_, _++_, append-assoc}
+use mathlib.Core.Path.{_≡_, refl, _∙_}
+use mathlib.Core.List.{List, _++_, append-assoc}
 use native.Mathlib.Omega.{arith}
 use native.Mathlib.Numerals.{add-one}
 use borrow.Author.Needs.{needs}
 use denote.Ref.{now}
 use lib.ListN.{length, take, getD, set, replicate, length-set}
-use lib.Seq.{take-suc, set-at, length-take-le, append-snoc}
+use lib.Seq.{take-suc, set-at, length-take-le}
 use Rattle.rig.specs.Limits.{siteLimit}
 use Rattle.model.specs.Setup.{keptSets}
 use Rattle.setup.proofs.kept.Statement.{statement}

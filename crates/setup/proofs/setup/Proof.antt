@@ -1,16 +1,12 @@
 -- `setup`: the code of `judge`, with the rig that goes with it.
-use mathlib.Core.Path.{_≡_, sym, _∙_, ap}
-use native.Mathlib.Omega.{arith}
+use mathlib.Core.Path.{sym, _∙_}
 use borrow.Author.Needs.{needs}
-use borrow.Author.Tests.{eq-eqb, ne-eqb}
-use Rattle.model.specs.Setup.{setupCode, freshRig, noRig}
+use borrow.Author.Tests.{ne-eqb}
+use Rattle.model.specs.Setup.{freshRig, noRig}
 use Rattle.model.proofs.Setup.{accepts}
 use Rattle.setup.specs.Answer.{setupAnswer}
 use Rattle.setup.proofs.setup.Statement.{statement}
 use Rattle.setup.proofs.setup.Tie as tie
-use Rattle.setup.proofs.judge.Reads as judge-reads
-use Rattle.setup.proofs.kept.Reads as kept-reads
-use Rattle.setup.proofs.resting.Reads as resting-reads
 
 judge-requires : tie.Need-judge-requires
 judge-requires c κs = search needs

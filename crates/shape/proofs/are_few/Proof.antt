@@ -7,8 +7,6 @@ use borrow.Author.Tests.{le-leb}
 use Rattle.shape.proofs.Whole.{few-second}
 use Rattle.shape.proofs.are_few.Statement.{statement}
 use Rattle.shape.proofs.are_few.Tie as tie
-use Rattle.shape.proofs.are_few.Reads as reads
-use Rattle.shape.proofs.are_few.Lts as lts
 
 returns : tie.Need-returns
 returns c =

@@ -2,18 +2,11 @@
 use mathlib.Core.Path.{sym, _∙_}
 use borrow.Author.Tests.{le-leb, lt-leb, not-true, not-false}
 use denote.Ref.{now}
+use Rattle.rig.specs.Limits.{eventLimit}
 use Rattle.shape.proofs.Whole.{tables-parts}
 use borrow.Author.Needs.{needs}
 use Rattle.shape.proofs.tables_shaped.Statement.{statement}
 use Rattle.shape.proofs.tables_shaped.Tie as tie
-use Rattle.shape.proofs.tables_shaped.Reads as reads
-use Rattle.shape.proofs.tables_shaped.Lts as lts
-use Rattle.shape.proofs.arbiters_shaped.Reads as arbiters-shaped-reads
-use Rattle.shape.proofs.entries_shaped.Reads as entries-shaped-reads
-use Rattle.shape.proofs.heirs_shaped.Reads as heirs-shaped-reads
-use Rattle.shape.proofs.queues_shaped.Reads as queues-shaped-reads
-use Rattle.shape.proofs.sets_shaped.Reads as sets-shaped-reads
-use Rattle.shape.proofs.sites_shaped.Reads as sites-shaped-reads
 
 sets-shaped-requires : tie.Need-sets-shaped-requires
 sets-shaped-requires c κs = search needs
@@ -26,7 +19,7 @@ returns c =
 returns-2 : tie.Need-returns-2
 returns-2 c =
     let a = c .before .before .before .before .before .args in
-    rw (tables-parts (a .t1) (now (a .held)) (now (a .heir)) (now (a .inquired)) (now (a .queued)), sym (c .before .before .sets-shaped .ensures) ∙ not-false _ (c .before .if1 .left), lt-leb _ _ (c .if2 .taken))
+    rw (tables-parts (a .t1) (now (a .held)) (now (a .heir)) (now (a .inquired)) (now (a .queued)), sym (c .before .before .sets-shaped .ensures) ∙ not-false _ (c .before .if1 .left), lt-leb (a .t1 .accepted) eventLimit (c .if2 .taken))
 
 sites-shaped-requires : tie.Need-sites-shaped-requires
 sites-shaped-requires c κs = search needs

@@ -4,13 +4,9 @@ use borrow.Author.Tests.{ne-eqb, not-true, not-false}
 use borrow.Author.Needs.{needs}
 use Rattle.model.proofs.Tables.{at-read}
 use Rattle.model.specs.Site.{enteredOrYielded}
-use Rattle.site.proofs.Does.{did-only}
+use Rattle.yields.proofs.Does.{did-only}
 use Rattle.site.proofs.enter_or_yield.Statement.{statement}
 use Rattle.site.proofs.enter_or_yield.Tie as tie
-use Rattle.entries.proofs.all_held.Reads as all-held-reads
-use Rattle.entries.proofs.enter.Reads as enter-reads
-use Rattle.entries.proofs.has_failed.Reads as has-failed-reads
-use Rattle.site.proofs.yield_member.Reads as yield-member-reads
 
 all-held-requires : tie.Need-all-held-requires
 all-held-requires c κs = search needs

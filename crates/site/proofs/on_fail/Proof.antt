@@ -3,12 +3,9 @@ use mathlib.Core.Path.{refl, sym, _∙_}
 use borrow.Author.Tests.{not-true, not-false}
 use borrow.Author.Needs.{needs}
 use Rattle.model.specs.Site.{failedSet, onFail}
-use Rattle.site.proofs.Does.{did-only}
+use Rattle.yields.proofs.Does.{did-only}
 use Rattle.site.proofs.on_fail.Statement.{statement}
 use Rattle.site.proofs.on_fail.Tie as tie
-use Rattle.entries.proofs.failed_set.Reads as failed-set-reads
-use Rattle.entries.proofs.is_waiting.Reads as is-waiting-reads
-use Rattle.site.proofs.yield_members.Reads as yield-members-reads
 
 is-waiting-requires : tie.Need-is-waiting-requires
 is-waiting-requires c κs = search needs
@@ -24,7 +21,7 @@ yield-members-requires : tie.Need-yield-members-requires
 unfolding failedSet
 yield-members-requires c κs =
     let pre = c .before .before .before .before .before .pre in
-    record { size = rw (c .before .failed-set .ensures) (pre .size); room = pre .room }
+    (rw (c .before .failed-set .ensures) (pre .0), pre .1)
 
 same-length : tie.Need-same-length
 same-length c = search needs

@@ -3,11 +3,9 @@ use mathlib.Core.Path.{refl, sym, _∙_}
 use borrow.Author.Tests.{not-true, not-false}
 use borrow.Author.Needs.{needs}
 use Rattle.model.specs.Site.{onInquire}
-use Rattle.site.proofs.Does.{did-only}
+use Rattle.yields.proofs.Does.{did-only}
 use Rattle.site.proofs.on_inquire.Statement.{statement}
 use Rattle.site.proofs.on_inquire.Tie as tie
-use Rattle.entries.proofs.is_waiting.Reads as is-waiting-reads
-use Rattle.site.proofs.yield_or_remember.Reads as yield-or-remember-reads
 
 is-waiting-requires : tie.Need-is-waiting-requires
 is-waiting-requires c κs = search needs

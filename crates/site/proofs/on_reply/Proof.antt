@@ -4,13 +4,9 @@ use borrow.Author.Tests.{ne-eqb, not-true, not-false}
 use borrow.Author.Needs.{needs}
 use Rattle.model.proofs.Tables.{at-read}
 use Rattle.model.specs.Site.{taken, takes, onReply}
-use Rattle.site.proofs.Does.{did-only}
+use Rattle.yields.proofs.Does.{did-only}
 use Rattle.site.proofs.on_reply.Statement.{statement}
 use Rattle.site.proofs.on_reply.Tie as tie
-use Rattle.entries.proofs.has.Reads as has-reads
-use Rattle.entries.proofs.is_waiting.Reads as is-waiting-reads
-use Rattle.entries.proofs.take.Reads as take-reads
-use Rattle.site.proofs.enter_or_yield.Reads as enter-or-yield-reads
 
 is-waiting-requires : tie.Need-is-waiting-requires
 is-waiting-requires c κs = search needs
@@ -19,12 +15,12 @@ returns : tie.Need-returns
 unfolding onReply takes
 returns c = rw (sym (c .before .is-waiting .ensures) ∙ not-true _ (c .if1 .taken)) (did-only _ _ refl)
 
-has-requires : tie.Need-has-requires
-has-requires c κs = search needs
+is-member-requires : tie.Need-is-member-requires
+is-member-requires c κs = search needs
 
 returns-2 : tie.Need-returns-2
 unfolding onReply takes
-returns-2 c = rw (sym (c .before .before .before .is-waiting .ensures) ∙ not-false _ (c .before .before .if1 .left), sym (c .before .has .ensures) ∙ not-true _ (c .if2 .taken)) (did-only _ _ refl)
+returns-2 c = rw (sym (c .before .before .before .is-waiting .ensures) ∙ not-false _ (c .before .before .if1 .left), sym (c .before .is-member .ensures) ∙ not-true _ (c .if2 .taken)) (did-only _ _ refl)
 
 sub-i : tie.Need-sub-i
 sub-i c = search needs
@@ -40,7 +36,7 @@ unfolding onReply takes
 returns-3 c =
     let d = c .before .before .before .before .before .before .before .args .t1 in
     let low = c .before .before .before .before .before .before .before .pre .0 .low in
-    rw (sym (c .before .before .before .before .before .is-waiting .ensures) ∙ not-false _ (c .before .before .before .before .if1 .left), sym (c .before .before .before .has .ensures) ∙ not-false _ (c .before .before .if2 .left), at-read 0 (d .held) _ low, ne-eqb _ _ (c .if3 .taken)) (did-only _ _ refl)
+    rw (sym (c .before .before .before .before .before .is-waiting .ensures) ∙ not-false _ (c .before .before .before .before .if1 .left), sym (c .before .before .before .is-member .ensures) ∙ not-false _ (c .before .before .if2 .left), at-read 0 (d .held) _ low, ne-eqb _ _ (c .if3 .taken)) (did-only _ _ refl)
 
 take-requires : tie.Need-take-requires
 take-requires c κs = search needs
@@ -49,7 +45,7 @@ enter-or-yield-requires : tie.Need-enter-or-yield-requires
 unfolding taken
 enter-or-yield-requires c κs =
     let pre = c .before .before .before .before .before .before .before .before .before .pre in
-    (pre .0, record { size = rw (c .before .take .ensures) (pre .1 .size); room = pre .1 .room })
+    (pre .0, rw (c .before .take .ensures) (pre .1), pre .2)
 
 same-length : tie.Need-same-length
 same-length c = search needs
@@ -59,7 +55,7 @@ unfolding onReply takes
 returns-4 c =
     let d = c .before .before .before .before .before .before .before .before .before .before .before .args .t1 in
     let low = c .before .before .before .before .before .before .before .before .before .before .before .pre .0 .low in
-    rw (sym (c .before .before .before .before .before .before .before .before .before .is-waiting .ensures) ∙ not-false _ (c .before .before .before .before .before .before .before .before .if1 .left), sym (c .before .before .before .before .before .before .before .has .ensures) ∙ not-false _ (c .before .before .before .before .before .before .if2 .left), at-read 0 (d .held) _ low, c .before .before .before .before .if3 .left) (rw (c .before .before .before .take .ensures) at (c .before .enter-or-yield .ensures))
+    rw (sym (c .before .before .before .before .before .before .before .before .before .is-waiting .ensures) ∙ not-false _ (c .before .before .before .before .before .before .before .before .if1 .left), sym (c .before .before .before .before .before .before .before .is-member .ensures) ∙ not-false _ (c .before .before .before .before .before .before .if2 .left), at-read 0 (d .held) _ low, c .before .before .before .before .if3 .left) (rw (c .before .before .before .take .ensures) at (c .before .enter-or-yield .ensures))
 
 pub on-reply-spec : {M : Type 1} → statement M
 on-reply-spec =
@@ -67,7 +63,7 @@ on-reply-spec =
     (tie.spec
     is-waiting-requires
     returns
-    has-requires
+    is-member-requires
     returns-2
     sub-i
     mul-g

@@ -1,10 +1,12 @@
 -- `on_transfer`: whether the number is the one held.
+use Prim.Native.Nat.{_-_}
 use mathlib.Core.Path.{refl}
+use lib.ListN.{getD}
 use borrow.Author.Tests.{eq-eqb, ne-eqb}
 use borrow.Author.Needs.{needs}
 use Rattle.model.proofs.Tables.{at-read, put-write}
 use Rattle.model.specs.Site.{onTransfer}
-use Rattle.site.proofs.Does.{did-only}
+use Rattle.yields.proofs.Does.{did-only}
 use Rattle.site.proofs.on_transfer.Statement.{statement}
 use Rattle.site.proofs.on_transfer.Tie as tie
 
@@ -26,9 +28,10 @@ element-write-e c = search needs
 returns : tie.Need-returns
 unfolding onTransfer
 returns c =
-    let d = c .before .before .args .t1 in
+    let a = c .before .before .args in
+    let d = a .t1 in
     let low = c .before .before .pre .low in
-    rw (at-read 0 (d .held) _ low, eq-eqb _ _ (c .if1 .taken), put-write (d .heir) _ _ low) (did-only _ _ refl)
+    rw (at-read 0 (d .held) _ low, eq-eqb (a .n) (getD (d .held) (a .j - 1) 0) (c .if1 .taken), put-write (d .heir) _ _ low) (did-only _ _ refl)
 
 returns-2 : tie.Need-returns-2
 unfolding onTransfer

@@ -4,12 +4,9 @@ use borrow.Author.Tests.{eq-eqb, ne-eqb}
 use borrow.Author.Needs.{needs}
 use Rattle.model.proofs.Tables.{at-read}
 use Rattle.model.specs.Site.{yieldedOrRemembered}
-use Rattle.site.proofs.Does.{did-only}
+use Rattle.yields.proofs.Does.{did-only}
 use Rattle.site.proofs.yield_or_remember.Statement.{statement}
 use Rattle.site.proofs.yield_or_remember.Tie as tie
-use Rattle.entries.proofs.has_failed.Reads as has-failed-reads
-use Rattle.entries.proofs.remember.Reads as remember-reads
-use Rattle.site.proofs.yield_member.Reads as yield-member-reads
 
 sub-i : tie.Need-sub-i
 sub-i c = search needs

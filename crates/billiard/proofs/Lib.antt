@@ -1,0 +1,4 @@
+-- Laws that several proofs of this crate cite.
+pub mod Parameters
+pub mod Steps
+pub mod Locations

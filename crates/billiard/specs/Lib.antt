@@ -1,0 +1,2 @@
+-- The billiard of document 01.
+pub mod Billiard

@@ -1,0 +1,2 @@
+-- The grid of document 01.
+pub mod Grid

@@ -1,0 +1,49 @@
+// Who is tied to whom: membership of a request set, for every number.
+use rig::Rig;
+ghost use mathlib.Core.Path.{_≡_};
+ghost use Rattle.model.specs.Sets.{member};
+ghost use Rattle.model.specs.Tables.{at};
+ghost use Rattle.members.specs.Ties.{tiedBy, bothTied};
+
+// Site j is a member of the set.
+pub fn is_member(set: u64, j: u64) -> bool
+    ensures { λ r. ⌜ r ≡ member set j ⌝ }
+{
+    if j == 0 {
+        return false;
+    }
+    if j > 64 {
+        return false;
+    }
+    (set >> (j - 1)) % 2 == 1
+}
+
+// The set of site k, empty outside the table.
+fn set_of(sets: &[u64], k: u64) -> u64
+    ensures { λ r. ⌜ r ≡ at 0 (now (sets .entry)) k ⌝ }
+{
+    if k == 0 {
+        return 0;
+    }
+    if k > sets.len() as u64 {
+        return 0;
+    }
+    sets[(k - 1) as usize]
+}
+
+// Site k is tied to arbiter j: j is in k's set.
+pub fn tied(sets: &[u64; Rig::SITES], k: u64, j: u64) -> bool
+    ensures { λ r. ⌜ r ≡ tiedBy (now (sets .entry)) k j ⌝ }
+{
+    is_member(set_of(sets, k), j)
+}
+
+// Two sites are tied to arbiter j.
+pub fn both_tied(sets: &[u64; Rig::SITES], k: u64, heir: u64, j: u64) -> bool
+    ensures { λ r. ⌜ r ≡ bothTied (now (sets .entry)) k heir j ⌝ }
+{
+    if !tied(sets, k, j) {
+        return false;
+    }
+    tied(sets, heir, j)
+}

@@ -1,0 +1,2 @@
+-- What a message is about, by its kind.
+pub mod Abouts

@@ -1,0 +1,2 @@
+-- The plane of document 01.
+pub mod Plane

@@ -1,0 +1,2 @@
+-- Reading the constant table.
+pub mod Constant

@@ -1,0 +1,19 @@
+-- `plane_entry`: the table for p = 5, else the rule.
+use borrow.Author.Needs.{needs}
+use Rattle.plane_table.proofs.plane_entry.Statement.{statement}
+use Rattle.plane_table.proofs.plane_entry.Tie as tie
+
+plane5-entry-requires : tie.Need-plane5-entry-requires
+plane5-entry-requires c κs = search needs
+
+returns : tie.Need-returns
+returns c = rw (c .before .if1 .taken) (c .plane5-entry .ensures)
+
+rule-entry-requires : tie.Need-rule-entry-requires
+rule-entry-requires c κs = search needs
+
+returns-2 : tie.Need-returns-2
+returns-2 c = c .rule-entry .ensures
+
+pub plane-entry-spec : {M : Type 1} → statement M
+plane-entry-spec = tie.close (tie.spec plane5-entry-requires returns rule-entry-requires returns-2)

@@ -1,0 +1,2 @@
+-- A site of a rig of N.
+pub mod Ranges

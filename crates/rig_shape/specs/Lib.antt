@@ -1,0 +1,2 @@
+-- The tests of model/specs/Shape on one set, site or arbiter.
+pub mod Parts
