@@ -18,8 +18,8 @@ pub struct Answer {
     pub rig: Rig,
 }
 
-// The set is not empty, and names no site outside 1 to `size`.
-fn names_sites(size: u64, set: u64) -> bool
+// An inner call: the set is not empty, and names no site outside 1 to `size`.
+pub fn names_sites(size: u64, set: u64) -> bool
     requires { ⌜ size ≤ siteLimit ⌝ }
     ensures { λ r. ⌜ r ≡ names size set ⌝ }
 {
@@ -38,8 +38,8 @@ fn all_name(size: u64, sets: &[u64]) -> bool
     true
 }
 
-// The set at index k shares a site with each one before it.
-fn meets_earlier(size: u64, sets: &[u64], k: u64) -> bool
+// An inner call: the set at index k shares a site with each one before it.
+pub fn meets_earlier(size: u64, sets: &[u64], k: u64) -> bool
     requires { ⌜ (size ≤ siteLimit) × (length (now sets) ≡ siteLimit) × (k < size) × (allName size (now sets) ≡ true) ⌝ }
     ensures { λ r. ⌜ r ≡ meetsEarlier size (now (sets .entry)) (k + 1) ⌝ }
 {
