@@ -99,7 +99,7 @@ fn kept(size: u64, sets: &[u64]) -> [u64; Rig::SITES]
 }
 
 // A rig in which nothing has happened.
-fn resting(size: u64, sets: [u64; Rig::SITES]) -> Rig
+pub fn resting(size: u64, sets: [u64; Rig::SITES]) -> Rig
     ensures { λ r. ⌜ r ≡ restingRig size sets ⌝ }
 {
     let site = Site {
