@@ -9,7 +9,7 @@ ghost use Prim.Native.Nat.{suc, _<_, _≤_};
 ghost use lib.Dec.{eqb};
 ghost use Rattle.rig.specs.Limits.{siteLimit, Listed};
 ghost use Rattle.model.specs.Sets.{member};
-ghost use Rattle.model.specs.State.{isWaiting, seqIn, failedIn};
+ghost use Rattle.model.specs.State.{isWaiting, isInside, seqIn, failedIn};
 ghost use Rattle.model.specs.Site.{failedSet, allHeld, entered, taken, remembered, mustYield};
 
 // Whether the site waits.
@@ -21,6 +21,18 @@ pub fn is_waiting(s: Site) -> bool
         Mode::Rest => false,
         Mode::Waiting { seq: _, failed: _ } => true,
         Mode::Inside => false,
+    }
+}
+
+// Whether the site is inside.
+pub fn is_inside(s: Site) -> bool
+    ensures { λ r. ⌜ r ≡ isInside (s .mode) ⌝ }
+{
+    let m = s.mode;
+    match m {
+        Mode::Rest => false,
+        Mode::Waiting { seq: _, failed: _ } => false,
+        Mode::Inside => true,
     }
 }
 
