@@ -14,7 +14,7 @@ use Rattle.prelude.specs.declared.Player.{Player}
 use Rattle.prelude.specs.declared.Said.{Said}
 use Rattle.prelude.specs.declared.Stage.{Stage}
 use Rattle.prelude.specs.declared.Stage.the-variants.{Size, Sets, Events, Over}
-use Rattle.prelude.specs.Player.{Text, Outcome}
+use Rattle.prelude.specs.Player.{Text, Outcome, onEnd}
 
 -- what the player knows, with the state of its rig
 abbrev pub textOf : Player → Stored → Text
@@ -64,3 +64,7 @@ Head stage f p page after r =
     length rows ≡ messageLimit → AtStage stage p held heir inquired queued rows →
     Spoke (f (text p held heir inquired queued rows)) (text (r .player) held heir inquired queued rows) page after (r .printed)
     × Playing (r .player) held heir inquired queued rows
+
+-- What is printed at the end of the input, whatever the state of the rig: nothing of it is read.
+abbrev pub Ended : Player → List ℕ → List ℕ → List ℕ → ℕ → Type 0
+Ended p rest page after n = (s : Stored) → Printed (onEnd (textOf p s) rest) page after n

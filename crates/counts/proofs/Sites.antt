@@ -1,0 +1,75 @@
+-- Laws of the site inside and of the count waiting, site by site.
+use Prim.Native.Nat.{ℕ, zero, suc, _+_, _≤_, min}
+use mathlib.Core.Path.{_≡_, refl, sym, _∙_, ap}
+use mathlib.Core.Bool.{Bool, true, false}
+use native.Mathlib.Omega.{arith}
+use native.Mathlib.Numerals.{add-one}
+use lib.Dec.{eqb, leb}
+use lib.ListN.{length}
+use borrow.Author.Tests.{eqb-true, eqb-false, ne-eqb, leb-true, leb-false}
+use Rattle.rig.specs.Limits.{siteLimit}
+use Rattle.rig.specs.declared.Site.{Site}
+use Rattle.rig.specs.declared.Mode.the-variants.{Rest}
+use Rattle.basics.specs.Helpers.{count}
+use Rattle.basics.proofs.Basics.{by-bool}
+use Rattle.model.specs.Setup.{restingSite}
+use Rattle.model.specs.State.{Tables, modeOf, isInside, isWaiting}
+use Rattle.model.specs.Run.{waitingCount}
+use Rattle.model.specs.Printed.{insideUpTo}
+use Rattle.model.proofs.Tables.{at-past}
+use Rattle.members.specs.Ties.{tablesOf}
+
+-- For callers: the counts read nothing of the four other tables.
+
+pub inside-same : (t : Tables) (n : ℕ) → insideUpTo (tablesOf (t .rig)) n ≡ insideUpTo t n
+unfolding insideUpTo
+inside-same t zero = refl
+inside-same t (suc n) = rw (inside-same t n)
+
+pub waiting-same : (t : Tables) → waitingCount (tablesOf (t .rig)) ≡ waitingCount t
+unfolding waitingCount
+waiting-same t = refl
+
+module _ (t : Tables) where
+  -- one site more, that is not inside
+  pub inside-more : (i : ℕ) → insideUpTo t i ≡ 0 → isInside (modeOf t (suc i)) ≡ false → insideUpTo t (i + 1) ≡ 0
+  unfolding insideUpTo
+  inside-more i e f = rw (add-one, e, f)
+
+  -- the one after those that are not inside
+  pub inside-found : (i n : ℕ) → insideUpTo t i ≡ 0 → isInside (modeOf t (suc i)) ≡ true → suc i ≤ n → insideUpTo t n ≡ suc i
+  unfolding insideUpTo
+  inside-found i zero e f h = absurd (omega arith)
+  inside-found i (suc n) e f h =
+      by-bool (eqb i n)
+      (λ q. let w = eqb-true i n q in rw (← w) (rw (e, f)))
+      (λ q. let w = eqb-false i n q in rw (inside-found i n e f (omega arith), ne-eqb (suc i) 0 (λ z. omega arith)))
+
+-- no more pass than there are
+pub count-within : (p : ℕ → Bool) (n r : ℕ) → r ≡ count p n → r ≤ n
+unfolding count
+count-within p zero r e = omega arith
+count-within p (suc n) r e =
+    let w = count-within p n (count p n) refl in
+    by-bool (p (suc n)) (λ t. let u = rw t at e in omega arith) (λ t. let u = rw t at e in omega arith)
+
+-- what changes no more from a place on
+stays : (f : ℕ → ℕ) (l : ℕ) → ((n : ℕ) → l ≤ n → f (suc n) ≡ f n) → (n : ℕ) → f (min n l) ≡ f n
+stays f l h zero = let e : min 0 l ≡ 0 = omega arith in rw e
+stays f l h (suc n) =
+    by-bool (leb (suc n) l)
+    (λ q. let w = leb-true (suc n) l q in let e : min (suc n) l ≡ suc n = omega arith in rw e)
+    (λ q. let w = leb-false (suc n) l q in let e : min (suc n) l ≡ min n l = omega arith in rw e (stays f l h n ∙ sym (h n (omega arith))))
+
+-- the sites past those stored are at rest
+module _ (t : Tables) (long : length (t .rig .sites) ≡ siteLimit) where
+  mode-past : (n : ℕ) → siteLimit ≤ n → modeOf t (suc n) ≡ Rest
+  mode-past n h = ap (λ (s : Site). s .mode) (at-past restingSite (t .rig .sites) (suc n) (omega arith))
+
+  pub inside-stored : (n : ℕ) → insideUpTo t (min n siteLimit) ≡ insideUpTo t n
+  unfolding insideUpTo
+  inside-stored = stays (insideUpTo t) siteLimit (λ n h. by-bool (eqb (insideUpTo t n) 0) (λ q. rw (q, mode-past n h) (sym (eqb-true _ 0 q))) (λ q. rw q))
+
+  pub waiting-stored : (n : ℕ) → count (λ k. isWaiting (modeOf t k)) (min n siteLimit) ≡ count (λ k. isWaiting (modeOf t k)) n
+  unfolding count
+  waiting-stored = stays (count (λ k. isWaiting (modeOf t k))) siteLimit (λ n h. rw (mode-past n h))

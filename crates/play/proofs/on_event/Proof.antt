@@ -1,0 +1,109 @@
+use borrow.Author.Needs.{needs}
+use Rattle.play.proofs.on_event.Statement.{statement}
+use Rattle.play.proofs.on_event.Tie as tie
+use Rattle.play.proofs.on_event.Reads as reads
+use Rattle.play.proofs.on_event.Lts as lts
+use Rattle.play.proofs.play_event.Reads as play-event-reads
+use Rattle.prelude.proofs.one_more.Reads as one-more-reads
+use Rattle.prelude.proofs.stop.Reads as stop-reads
+
+enum-known-m : tie.Need-enum-known-m
+enum-known-m c = search needs
+
+play-event-requires : tie.Need-play-event-requires
+play-event-requires c κs = search needs
+
+enum-known-m-2 : tie.Need-enum-known-m-2
+enum-known-m-2 c = search needs
+
+play-event-requires-2 : tie.Need-play-event-requires-2
+play-event-requires-2 c κs = search needs
+
+enum-known-m-3 : tie.Need-enum-known-m-3
+enum-known-m-3 c = search needs
+
+play-event-requires-3 : tie.Need-play-event-requires-3
+play-event-requires-3 c κs = search needs
+
+enum-known-m-4 : tie.Need-enum-known-m-4
+enum-known-m-4 c = search needs
+
+one-more-requires : tie.Need-one-more-requires
+one-more-requires c κs = search needs
+
+stop-requires : tie.Need-stop-requires
+stop-requires c κs = search needs
+
+enum-known-m-5 : tie.Need-enum-known-m-5
+enum-known-m-5 c = search needs
+
+one-more-requires-2 : tie.Need-one-more-requires-2
+one-more-requires-2 c κs = search needs
+
+stop-requires-2 : tie.Need-stop-requires-2
+stop-requires-2 c κs = search needs
+
+enum-told : tie.Need-enum-told
+enum-told c = search needs
+
+one-more-requires-3 : tie.Need-one-more-requires-3
+one-more-requires-3 c κs = search needs
+
+stop-requires-3 : tie.Need-stop-requires-3
+stop-requires-3 c κs = search needs
+
+same-length : tie.Need-same-length
+same-length c = search needs
+
+returns : tie.Need-returns
+returns c = ?
+
+same-length-2 : tie.Need-same-length-2
+same-length-2 c = search needs
+
+returns-2 : tie.Need-returns-2
+returns-2 c = ?
+
+same-length-3 : tie.Need-same-length-3
+same-length-3 c = search needs
+
+returns-3 : tie.Need-returns-3
+returns-3 c = ?
+
+returns-4 : tie.Need-returns-4
+returns-4 c = ?
+
+returns-5 : tie.Need-returns-5
+returns-5 c = ?
+
+returns-6 : tie.Need-returns-6
+returns-6 c = ?
+
+pub on-event-spec : {M : Type 1} → statement M
+on-event-spec =
+    tie.close
+    (tie.spec
+    enum-known-m
+    play-event-requires
+    enum-known-m-2
+    play-event-requires-2
+    enum-known-m-3
+    play-event-requires-3
+    enum-known-m-4
+    one-more-requires
+    stop-requires
+    enum-known-m-5
+    one-more-requires-2
+    stop-requires-2
+    enum-told
+    one-more-requires-3
+    stop-requires-3
+    same-length
+    returns
+    same-length-2
+    returns-2
+    same-length-3
+    returns-3
+    returns-4
+    returns-5
+    returns-6)

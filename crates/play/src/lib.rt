@@ -1,0 +1,149 @@
+// The player: reads a text of events line by line, and writes the lines that document 01 fixes.
+use counts::inside;
+use counts::waiting;
+use engine::step;
+use grammar::Line;
+use grammar::meaning;
+use mail::Row;
+use prelude::Player;
+use prelude::Said;
+use prelude::Stage;
+use prelude::on_set;
+use prelude::on_size;
+use prelude::one_more;
+use prelude::stop;
+use printing::Page;
+use printing::step_line;
+use printing::stop_line;
+use rig::Event;
+use rig::Rig;
+use rig::Table;
+ghost use mathlib.Core.Path.{_≡_};
+ghost use mathlib.Core.Option.{some};
+ghost use lib.ListN.{length};
+ghost use Rattle.rig.specs.Limits.{messageLimit};
+ghost use Rattle.prelude.specs.declared.Stage.the-variants.{Events};
+ghost use Rattle.prelude.specs.Player.{eventIn, onEvent, onLine};
+ghost use Rattle.prelude.specs.Playing.{text, AtStage, Playing, Spoke, Ended};
+
+// One event.
+fn play_event(
+    p: Player,
+    held: &mut Table,
+    heir: &mut Table,
+    inquired: &mut Table,
+    queued: &mut Table,
+    list: &mut [Row],
+    page: &mut Page,
+    e: Event,
+) -> Said
+    requires { ⌜ (length (now list) ≡ messageLimit) × AtStage Events p (now held) (now heir) (now inquired) (now queued) (now list) ⌝ }
+    ensures { λ r. ⌜ Spoke (onEvent (text p (now (held .entry)) (now (heir .entry)) (now (inquired .entry)) (now (queued .entry)) (now (list .entry))) (some e)) (text (r .player) (now (held .exit)) (now (heir .exit)) (now (inquired .exit)) (now (queued .exit)) (now (list .exit))) (now (page .entry)) (now (page .exit)) (r .printed) × Playing (r .player) (now (held .exit)) (now (heir .exit)) (now (inquired .exit)) (now (queued .exit)) (now (list .exit)) ⌝ }
+{
+    let rig = p.rig;
+    let r = step(rig, held, heir, inquired, queued, list, p.count, e);
+    let place = one_more(p.step);
+    let after = r.rig;
+    let n = step_line(
+        page,
+        place,
+        r.code,
+        inside(after),
+        waiting(after),
+        r.count as u64,
+    );
+    let read = one_more(p.line);
+    let sets = p.sets;
+    let next = Player {
+        stage: Stage::Events,
+        line: read,
+        step: place,
+        size: p.size,
+        given: p.given,
+        sets: sets,
+        rig: after,
+        count: r.count,
+    };
+    Said {
+        player: next,
+        printed: n,
+    }
+}
+
+// A line behind the sets.
+fn on_event(
+    p: Player,
+    held: &mut Table,
+    heir: &mut Table,
+    inquired: &mut Table,
+    queued: &mut Table,
+    list: &mut [Row],
+    page: &mut Page,
+    m: Line,
+) -> Said
+    requires { ⌜ (length (now list) ≡ messageLimit) × AtStage Events p (now held) (now heir) (now inquired) (now queued) (now list) ⌝ }
+    ensures { λ r. ⌜ Spoke (onEvent (text p (now (held .entry)) (now (heir .entry)) (now (inquired .entry)) (now (queued .entry)) (now (list .entry))) (eventIn m)) (text (r .player) (now (held .exit)) (now (heir .exit)) (now (inquired .exit)) (now (queued .exit)) (now (list .exit))) (now (page .entry)) (now (page .exit)) (r .printed) × Playing (r .player) (now (held .exit)) (now (heir .exit)) (now (inquired .exit)) (now (queued .exit)) (now (list .exit)) ⌝ }
+{
+    match m {
+        Line::Ask(s) => play_event(p, held, heir, inquired, queued, list, page, Event::Ask(s)),
+        Line::Leave(s) => play_event(p, held, heir, inquired, queued, list, page, Event::Leave(s)),
+        Line::Move(a, b) => play_event(
+            p,
+            held,
+            heir,
+            inquired,
+            queued,
+            list,
+            page,
+            Event::Deliver(a, b),
+        ),
+        Line::Sites(n) => stop(p, page, 11, one_more(p.line)),
+        Line::Set(s) => stop(p, page, 11, one_more(p.line)),
+        Line::Malformed => stop(p, page, 11, one_more(p.line)),
+    }
+}
+
+// An inner call: one line, its bytes before byte 10. The player and what it is lent are as `begin` or an earlier line left them.
+pub fn line(
+    p: Player,
+    held: &mut Table,
+    heir: &mut Table,
+    inquired: &mut Table,
+    queued: &mut Table,
+    list: &mut [Row],
+    page: &mut Page,
+    bytes: &[u8],
+) -> Said
+    requires { ⌜ Playing p (now held) (now heir) (now inquired) (now queued) (now list) ⌝ }
+    ensures { λ r. ⌜ Spoke (onLine (text p (now (held .entry)) (now (heir .entry)) (now (inquired .entry)) (now (queued .entry)) (now (list .entry))) (now (bytes .entry))) (text (r .player) (now (held .exit)) (now (heir .exit)) (now (inquired .exit)) (now (queued .exit)) (now (list .exit))) (now (page .entry)) (now (page .exit)) (r .printed) × Playing (r .player) (now (held .exit)) (now (heir .exit)) (now (inquired .exit)) (now (queued .exit)) (now (list .exit)) ⌝ }
+{
+    let m = meaning(bytes);
+    let stage = p.stage;
+    match stage {
+        Stage::Size => on_size(p, page, m),
+        Stage::Sets => on_set(p, page, m),
+        Stage::Events => on_event(p, held, heir, inquired, queued, list, page, m),
+        Stage::Over => Said {
+            player: p,
+            printed: 0,
+        },
+    }
+}
+
+// The end of the input, with the bytes behind the last byte 10; answers how many bytes of the page are to be written out.
+pub fn finish(p: Player, page: &mut Page, rest: &[u8]) -> usize
+    ensures { λ r. ⌜ Ended p (now (rest .entry)) (now (page .entry)) (now (page .exit)) r ⌝ }
+{
+    let place = one_more(p.line);
+    let stage = p.stage;
+    match stage {
+        Stage::Size => stop_line(page, 11, place),
+        Stage::Sets => stop_line(page, 11, place),
+        Stage::Events => if rest.len() > 0 {
+            stop_line(page, 11, place)
+        } else {
+            0
+        },
+        Stage::Over => 0,
+    }
+}
