@@ -1,8 +1,11 @@
+-- `finish`: a lacking line, a line without its end, or nothing.
+use denote.Ref.{now}
+use Rattle.prelude.specs.Playing.{textOf}
+use Rattle.prelude.proofs.Heads.{nothing}
+use Rattle.play.proofs.Stages.{end-size, end-sets, end-over, end-inside-line, end-after-line}
 use borrow.Author.Needs.{needs}
 use Rattle.play.proofs.finish.Statement.{statement}
 use Rattle.play.proofs.finish.Tie as tie
-use Rattle.play.proofs.finish.Reads as reads
-use Rattle.play.proofs.finish.Lts as lts
 use Rattle.prelude.proofs.one_more.Reads as one-more-reads
 use Rattle.printing.proofs.stop_line.Reads as stop-line-reads
 
@@ -31,19 +34,29 @@ enum-told-4 : tie.Need-enum-told-4
 enum-told-4 c = search needs
 
 returns : tie.Need-returns
-returns c = ?
+returns c = λ s.
+    let a = c .before .before .before .before .before .before .args in
+    rw (end-size (textOf (a .p) s) (now (a .rest)) (c .before .before .enum-told .given .1), ← c .before .before .before .before .one-more .ensures) (c .stop-line .ensures)
 
 returns-2 : tie.Need-returns-2
-returns-2 c = ?
+returns-2 c = λ s.
+    let a = c .before .before .before .before .before .before .args in
+    rw (end-sets (textOf (a .p) s) (now (a .rest)) (c .before .before .enum-told2 .given .1), ← c .before .before .before .before .one-more .ensures) (c .stop-line2 .ensures)
 
 returns-3 : tie.Need-returns-3
-returns-3 c = ?
+returns-3 c = λ s.
+    let a = c .before .before .before .before .before .before .before .args in
+    rw (end-inside-line (textOf (a .p) s) (now (a .rest)) (c .before .before .before .enum-told3 .given .1) (c .before .before .if1 .taken), ← c .before .before .before .before .before .one-more .ensures) (c .stop-line3 .ensures)
 
 returns-4 : tie.Need-returns-4
-returns-4 c = ?
+returns-4 c = λ s.
+    let a = c .before .before .before .before .before .args in
+    rw (end-after-line (textOf (a .p) s) (now (a .rest)) (c .before .enum-told3 .given .1) (c .if1 .left)) nothing
 
 returns-5 : tie.Need-returns-5
-returns-5 c = ?
+returns-5 c = λ s.
+    let a = c .before .before .before .before .args in
+    rw (end-over (textOf (a .p) s) (now (a .rest)) (c .enum-told4 .given .1)) nothing
 
 pub finish-spec : {M : Type 1} → statement M
 finish-spec =

@@ -1,8 +1,10 @@
+-- `play_event`: the step, and its line.
+use mathlib.Core.Path.{_∙_}
+use denote.Ref.{now}
+use Rattle.play.proofs.Events.{ready, plays}
 use borrow.Author.Needs.{needs}
 use Rattle.play.proofs.play_event.Statement.{statement}
 use Rattle.play.proofs.play_event.Tie as tie
-use Rattle.play.proofs.play_event.Reads as reads
-use Rattle.play.proofs.play_event.Lts as lts
 use Rattle.counts.proofs.inside.Reads as inside-reads
 use Rattle.counts.proofs.waiting.Reads as waiting-reads
 use Rattle.engine.proofs.step.Reads as step-reads
@@ -10,7 +12,10 @@ use Rattle.prelude.proofs.one_more.Reads as one-more-reads
 use Rattle.printing.proofs.step_line.Reads as step-line-reads
 
 step-requires : tie.Need-step-requires
-step-requires c κs = ?
+step-requires c κs =
+    let a = c .before .before .before .before .before .before .args in
+    let p = c .before .before .before .before .before .before .pre in
+    (ready (a .p) (now (a .held)) (now (a .heir)) (now (a .inquired)) (now (a .queued)) (now (a .list)) (p .0) (p .1), p .1 .1)
 
 one-more-requires : tie.Need-one-more-requires
 one-more-requires c κs = search needs
@@ -31,7 +36,10 @@ same-length : tie.Need-same-length
 same-length c = search needs
 
 returns : tie.Need-returns
-returns c = ?
+returns c =
+    let a = c .before .before .before .before .before .before .before .before .before .before .before .before .before .before .before .before .args in
+    let p = c .before .before .before .before .before .before .before .before .before .before .before .before .before .before .before .before .pre in
+    plays (a .p) (a .e) (now (a .held)) (now (a .heir)) (now (a .inquired)) (now (a .queued)) (now (a .list)) (c .before .before .before .before .before .before .before .before .before .step .result) _ _ _ _ _ (c .before .before .step-line .result) (c .before .one-more2 .result) (c .before .before .before .before .before .before .before .one-more .result) (c .before .before .before .before .inside .result) (c .before .before .before .waiting .result) (p .1) (c .before .before .before .before .before .before .before .before .before .step .ensures) (same-length c ∙ p .0) (c .before .one-more2 .ensures) (c .before .before .before .before .before .before .before .one-more .ensures) (c .before .before .before .before .inside .ensures) (c .before .before .before .waiting .ensures) (c .before .before .step-line .ensures)
 
 pub play-event-spec : {M : Type 1} → statement M
 play-event-spec =

@@ -1,0 +1,53 @@
+-- One event: what it prints, and that the player goes on.
+use Prim.Native.Nat.{ℕ}
+use mathlib.Core.Path.{_≡_, refl, _∙_}
+use mathlib.Core.List.{List}
+use mathlib.Core.Option.{some}
+use lib.ListN.{length, length-map}
+use Rattle.rig.specs.declared.Event.{Event}
+use Rattle.rig.specs.Limits.{messageLimit}
+use Rattle.model.specs.Event as M
+use Rattle.model.specs.Run.{OfRun, waitingCount}
+use Rattle.model.specs.Printed.{insideUpTo, lineOf}
+use Rattle.model.proofs.OfRun.{run-few, run-shaped}
+use Rattle.members.specs.Ties.{tablesOf}
+use Rattle.counts.proofs.Sites.{inside-same, waiting-same}
+use Rattle.mail.specs.Rows.{messageOf}
+use Rattle.mail.specs.Places.{cleared}
+use Rattle.desks.specs.Whole.{tables}
+use Rattle.accepting.specs.declared.Answer.{Answer}
+use Rattle.accepting.specs.Whole.{stored, answered}
+use Rattle.attempts.specs.Asks.{Ready}
+use Rattle.engine.specs.Stepped.{Stepped}
+use Rattle.printing.specs.Printing.{stepLine, Printed}
+use Rattle.prelude.specs.declared.Player.{Player}
+use Rattle.prelude.specs.declared.Stage.the-variants.{Events}
+use Rattle.prelude.specs.Player.{counted, printedLine, onEvent}
+use Rattle.prelude.specs.Playing.{text, AtStage, Playing, Spoke}
+
+-- a state of a run is ready for an event
+pub ready : (p : Player) (held heir inquired queued rows : List (List ℕ)) → length rows ≡ messageLimit → AtStage Events p held heir inquired queued rows
+    → Ready (stored (p .rig) held heir inquired queued rows (p .count))
+ready p held heir inquired queued rows long fits = record { long = length-map rows messageOf ∙ long; few = run-few (fits .0); shaped = run-shaped (fits .0) }
+
+abbrev played : Player → Answer → ℕ → ℕ → Player
+played p r read place = record { stage = Events; line = read; step = place; size = p .size; given = p .given; sets = p .sets; rig = r .rig; count = r .count }
+
+module _ (p : Player) (e : Event) (held heir inquired queued rows : List (List ℕ)) (r : Answer) (held′ heir′ inquired′ queued′ rows′ : List (List ℕ)) where
+  pub plays : {page after : List ℕ} (n read place inside waiting : ℕ)
+      → AtStage Events p held heir inquired queued rows
+      → Stepped (stored (p .rig) held heir inquired queued rows (p .count)) e (answered r held′ heir′ inquired′ queued′ rows′) × (cleared (r .count) rows′ ≡ rows′)
+      → length rows′ ≡ messageLimit
+      → read ≡ counted (p .line) → place ≡ counted (p .step)
+      → inside ≡ insideUpTo (tablesOf (r .rig)) (r .rig .size) → waiting ≡ waitingCount (tablesOf (r .rig))
+      → Printed (stepLine place (r .code) inside waiting (r .count)) page after n
+      → Spoke (onEvent (text p held heir inquired queued rows) (some e)) (text (played p r read place) held′ heir′ inquired′ queued′ rows′) page after n
+      × Playing (played p r read place) held′ heir′ inquired′ queued′ rows′
+  unfolding onEvent printedLine lineOf
+  plays n read place inside waiting fits s long f g i w line =
+      let t = tables (r .rig) held′ heir′ inquired′ queued′ in
+      let i′ : inside ≡ insideUpTo t (r .rig .size) = i ∙ inside-same t (r .rig .size) in
+      let w′ : waiting ≡ waitingCount t = w ∙ waiting-same t in (
+        rw (← s .0 .answer, ← f, ← g) (record { known = refl; printed = rw (← i′, ← w′) line }),
+        record { long = long; fits = (s .0 .again (fits .0) .0, s .1) },
+      )
