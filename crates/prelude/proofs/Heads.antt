@@ -23,7 +23,7 @@ use Rattle.prelude.specs.Player.{Outcome, counted, stopped, onSize, allG
 use Rattle.prelude.specs.Playing.{text, over, Untouched, Playing, Spoke}
 
 pub nothing : {page : List ℕ} → Printed [] page page 0
-nothing = record { count = refl; text = refl; rest = refl }
+nothing = record { count = refl; text = refl; rest = refl; long = refl }
 
 -- the player once it has N, one set more, or all sets
 module _ (p : Player) (place : ℕ) where

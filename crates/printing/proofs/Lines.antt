@@ -5,7 +5,7 @@ use mathlib.Core.Path.{_≡_, sym, ap, _∙_}
 use native.Mathlib.Nat.{zero-add}
 use native.Mathlib.Omega.{arith}
 use lib.ListN.{length, take, drop, length-append, length-take}
-use lib.Seq.{sets-eq, take-append-seam, drop-append-seam}
+use lib.Seq.{length-sets, sets-eq, take-append-seam, drop-append-seam}
 use Rattle.printing.specs.Printing.{stepLine, stopLine, Printed}
 use Rattle.printing.proofs.Digits.{decimal-length}
 use Rattle.printing.specs.Wrote.{Wrote}
@@ -16,7 +16,7 @@ module _ {line page after : List ℕ} {r : ℕ} where
       let b = w .behind in
       let e : r ≡ length line = b ∙ zero-add _ in
       let p : after ≡ line ++ drop (length line) page = w .stored ∙ sets-eq line page 0 (omega arith) ∙ rw zero-add in
-      record { count = e; text = rw (e, p) (take-append-seam line _); rest = rw (e, p) (drop-append-seam line _) }
+      record { count = e; text = rw (e, p) (take-append-seam line _); rest = rw (e, p) (drop-append-seam line _); long = rw (w .stored) (length-sets page 0 line) }
 
   -- for callers: what `&page[..r]` asks
   pub printed-part : Printed line page after r → (r ≤ length after) × (r ≡ length (take r after))

@@ -57,3 +57,4 @@ pub record Printed (line page after : List ℕ) (r : ℕ) : Type 0 where
   pub count : r ≡ length line
   pub text : take r after ≡ line
   pub rest : drop r after ≡ drop r page
+  pub long : length after ≡ length page
