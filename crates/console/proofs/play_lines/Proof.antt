@@ -1,3 +1,4 @@
+-- `play_lines`: each line leaves the player and its tables fit for the next.
 use Prim.Native.Nat.{_≤_, _-_}
 use mathlib.Core.Path.{_≡_, refl, sym, _∙_}
 use native.Mathlib.Omega.{arith}
@@ -6,12 +7,12 @@ use lib.Seq.{length-take-le}
 use Rattle.printing.proofs.Lines.{printed-part}
 use Rattle.prelude.specs.Playing.{Playing}
 use borrow.Author.Needs.{needs}
-use Rattle.player.proofs.play_lines.Statement.{statement}
-use Rattle.player.proofs.play_lines.Tie as tie
+use Rattle.console.proofs.play_lines.Statement.{statement}
+use Rattle.console.proofs.play_lines.Tie as tie
 use Rattle.bytes.proofs.scan.find.Reads as find-reads
 use Rattle.io.proofs.write_all.Reads as write-all-reads
 use Rattle.play.proofs.line.Reads as line-reads
-use Rattle.player.proofs.put_out.Reads as put-out-reads
+use Rattle.console.proofs.put_out.Reads as put-out-reads
 
 abbrev Inv-loop : tie.InvT-loop
 Inv-loop held₀ heir₀ inquired₀ queued₀ list₀ input filled output₀ page₀ q₀ from₀ at₀ held heir inquired queued list output page q from at =

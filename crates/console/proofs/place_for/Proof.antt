@@ -1,8 +1,9 @@
+-- `place_for`: the place, or the start once the output is written out.
 use lib.Seq.{length-take-le}
 use mathlib.Core.Path.{sym}
 use borrow.Author.Needs.{needs}
-use Rattle.player.proofs.place_for.Statement.{statement}
-use Rattle.player.proofs.place_for.Tie as tie
+use Rattle.console.proofs.place_for.Statement.{statement}
+use Rattle.console.proofs.place_for.Tie as tie
 use Rattle.io.proofs.write_all.Reads as write-all-reads
 
 sub-if1 : tie.Need-sub-if1

@@ -1,11 +1,10 @@
+-- `move_up`: each byte goes forward; the length stays.
 use Prim.Native.Nat.{_≤_, _-_}
-use mathlib.Core.Path.{_≡_, refl}
-use native.Mathlib.Omega.{arith}
+use mathlib.Core.Path.{_≡_}
 use lib.ListN.{length}
-use denote.Ref.{now}
 use borrow.Author.Needs.{needs}
-use Rattle.player.proofs.move_up.Statement.{statement}
-use Rattle.player.proofs.move_up.Tie as tie
+use Rattle.console.proofs.move_up.Statement.{statement}
+use Rattle.console.proofs.move_up.Tie as tie
 
 abbrev Inv-loop : tie.InvT-loop
 Inv-loop input₀ from filled n i₀ input i = (i ≤ n) × (length input ≡ length input₀)

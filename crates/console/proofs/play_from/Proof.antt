@@ -1,3 +1,4 @@
+-- `play_from`: the player and its tables fit each other at every turn, and a line begun is at most 96 bytes.
 use Prim.Native.Nat.{_≤_, _-_}
 use mathlib.Core.Path.{_≡_, refl, sym}
 use native.Mathlib.Omega.{arith}
@@ -5,28 +6,28 @@ use lib.ListN.{length}
 use lib.Seq.{length-take-le}
 use Rattle.printing.proofs.Lines.{printed-part}
 use Rattle.prelude.specs.Player.{start}
-use Rattle.player.proofs.Begin.{playing}
+use Rattle.console.proofs.Begin.{playing}
 use Rattle.prelude.specs.Playing.{Playing}
 use borrow.Author.Needs.{needs}
-use Rattle.player.proofs.main.Statement.{statement}
-use Rattle.player.proofs.main.Tie as tie
+use Rattle.console.proofs.play_from.Statement.{statement}
+use Rattle.console.proofs.play_from.Tie as tie
 use Rattle.io.proofs.large_buffer.Reads as large-buffer-reads
 use Rattle.io.proofs.write_all.Reads as write-all-reads
 use Rattle.play.proofs.finish.Reads as finish-reads
 use Rattle.play.proofs.line.Reads as line-reads
-use Rattle.player.proofs.is_over.Reads as is-over-reads
-use Rattle.player.proofs.move_up.Reads as move-up-reads
-use Rattle.player.proofs.play_lines.Reads as play-lines-reads
-use Rattle.player.proofs.read_more.Reads as read-more-reads
+use Rattle.console.proofs.is_over.Reads as is-over-reads
+use Rattle.console.proofs.move_up.Reads as move-up-reads
+use Rattle.console.proofs.play_lines.Reads as play-lines-reads
+use Rattle.console.proofs.read_more.Reads as read-more-reads
 use Rattle.prelude.proofs.begin.Reads as begin-reads
 use Rattle.rig.proofs.Rig.blank.Reads as blank-reads
 
 abbrev Inv-loop : tie.InvT-loop
-Inv-loop held₀ heir₀ inquired₀ queued₀ list₀ input₀ output₀ page₀ p₀ filled₀ turns₀ held heir inquired queued list input output page p filled turns =
+Inv-loop fd held₀ heir₀ inquired₀ queued₀ list₀ input₀ output₀ page₀ p₀ filled₀ turns₀ held heir inquired queued list input output page p filled turns =
     Playing p held heir inquired queued list × (filled ≤ 96) × (length list ≡ 1_024) × (length input ≡ 65_536) × (length output ≡ 65_536) × (length page ≡ 160)
 
 abbrev μ-loop : tie.MeasureT-loop
-μ-loop held₀ heir₀ inquired₀ queued₀ list₀ input₀ output₀ page₀ p₀ filled₀ turns₀ held heir inquired queued list input output page p filled turns =
+μ-loop fd held₀ heir₀ inquired₀ queued₀ list₀ input₀ output₀ page₀ p₀ filled₀ turns₀ held heir inquired queued list input output page p filled turns =
     turns
 
 blank-requires : tie.Need-blank-requires Inv-loop μ-loop
@@ -153,8 +154,8 @@ loop-again c = (c .before .before .before .before .before .before .before .befor
 returns-4 : tie.Need-returns-4 Inv-loop μ-loop
 returns-4 c = search needs
 
-pub main-spec : {M : Type 1} → statement M
-main-spec =
+pub play-from-spec : {M : Type 1} → statement M
+play-from-spec =
     tie.close
     (tie.spec
     Inv-loop

@@ -1,12 +1,11 @@
+-- `put_out`: the bytes fit behind the place.
 use Prim.Native.Nat.{_≤_, _-_}
-use mathlib.Core.Path.{_≡_, refl}
-use native.Mathlib.Omega.{arith}
+use mathlib.Core.Path.{_≡_}
 use lib.ListN.{length}
-use denote.Ref.{now}
 use borrow.Author.Needs.{needs}
-use Rattle.player.proofs.put_out.Statement.{statement}
-use Rattle.player.proofs.put_out.Tie as tie
-use Rattle.player.proofs.place_for.Reads as place-for-reads
+use Rattle.console.proofs.put_out.Statement.{statement}
+use Rattle.console.proofs.put_out.Tie as tie
+use Rattle.console.proofs.place_for.Reads as place-for-reads
 
 abbrev Inv-loop : tie.InvT-loop
 Inv-loop output₀ at page n to i₀ output i =
