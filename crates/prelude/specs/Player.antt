@@ -149,7 +149,8 @@ start = record {
 unfoldable pub transcript : Text → List ℕ → List ℕ → List ℕ
 transcript p line [] = onEnd p line
 transcript p line (b ∷ bs) =
-    cond (eqb b 10) (onLine p line .said ++ transcript (onLine p line .next) [] bs)
+    let o = onLine p line in
+    cond (eqb b 10) (o .said ++ transcript (o .next) [] bs)
     (transcript p (line ++ (b ∷ [])) bs)
 
 unfoldable pub output : List ℕ → List ℕ
