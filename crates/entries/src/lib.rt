@@ -1,4 +1,4 @@
-// A site's part of its desk: what it says, and how it changes. Each public function is an inner call.
+// A site's part of its desk: what it says, and how it changes.
 use members::is_member;
 use rig::Desk;
 use rig::Mode;
@@ -36,7 +36,7 @@ fn outside_or_held(set: u64, j: u64, g: u64) -> bool
     if is_member(set, j) { g != 0 } else { true }
 }
 
-// All members are held.
+// An inner call: all members are held.
 pub fn all_held(d: Desk) -> bool
     requires { ⌜ d .size ≤ siteLimit ⌝ }
     ensures { λ r. ⌜ r ≡ allHeld d ⌝ }
@@ -72,7 +72,7 @@ fn kept_inquire(q: u64, n: u64) -> u64
     if q == n { n } else { 0 }
 }
 
-// Number n is held for j.
+// An inner call: number n is held for j.
 pub fn take(d: Desk, j: u64, n: u64) -> Desk
     requires { ⌜ Listed j ⌝ }
     ensures { λ r. ⌜ r ≡ taken d j n ⌝ }
@@ -85,7 +85,7 @@ pub fn take(d: Desk, j: u64, n: u64) -> Desk
     e
 }
 
-// An inquire from j with number n is remembered.
+// An inner call: an inquire from j with number n is remembered.
 pub fn remember(d: Desk, j: u64, n: u64) -> Desk
     requires { ⌜ Listed j ⌝ }
     ensures { λ r. ⌜ r ≡ remembered d j n ⌝ }
@@ -96,7 +96,7 @@ pub fn remember(d: Desk, j: u64, n: u64) -> Desk
     e
 }
 
-// Member j is held, with a remembered inquire.
+// An inner call: member j is held, with a remembered inquire.
 pub fn must_yield(d: Desk, j: u64) -> bool
     requires { ⌜ Listed j ⌝ }
     ensures { λ r. ⌜ r ≡ mustYield d j ⌝ }

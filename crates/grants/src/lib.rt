@@ -1,5 +1,5 @@
-// What an arbiter sends its holder, and how it grants. Each public function is an inner call: the desk is that of the arbiter's own site,
-// and messages go to `out`, behind the first `count` rows.
+// What an arbiter sends its holder, and how it grants. The desk is that of the arbiter's own site, and messages go to `out`, behind the
+// first `count` rows.
 use mail::Acted;
 use mail::Row;
 use mail::append;
@@ -58,7 +58,7 @@ fn next_heir(d: Desk, out: &mut [Row], count: usize) -> usize
     append(out, count, transfer_of(d.number, d.arbiter, h))
 }
 
-// Grants k, which asked with sequence number n.
+// An inner call: grants k, which asked with sequence number n.
 pub fn grant(d: Desk, out: &mut [Row], count: usize, k: u64, n: u64) -> Acted
     requires { ⌜ Room d 1 2 count (now out) × Listed k ⌝ }
     ensures { λ r. ⌜ Did (granted d k n) count (now (out .entry)) (now (out .exit)) r ⌝ }
@@ -76,7 +76,7 @@ pub fn grant(d: Desk, out: &mut [Row], count: usize, k: u64, n: u64) -> Acted
     }
 }
 
-// Grants the head, if any.
+// An inner call: grants the head, if any.
 pub fn grant_head(d: Desk, out: &mut [Row], count: usize) -> Acted
     requires { ⌜ Room d 1 2 count (now out) ⌝ }
     ensures { λ r. ⌜ Did (grantedHead d) count (now (out .entry)) (now (out .exit)) r ⌝ }
@@ -92,7 +92,7 @@ pub fn grant_head(d: Desk, out: &mut [Row], count: usize) -> Acted
     grant(d, out, count, h, n)
 }
 
-// Two messages, in this order.
+// An inner call: two messages, in this order.
 pub fn append_two(out: &mut [Row], count: usize, one: Message, other: Message) -> usize
     requires { ⌜ count + 2 ≤ length (now out) ⌝ }
     ensures { λ r. ⌜ Sent (one ∷ other ∷ []) count (now (out .entry)) (now (out .exit)) r ⌝ }

@@ -1,4 +1,4 @@
-// An arbiter's queue: which ask comes first, the head, and what is queued. Each public function is an inner call.
+// An arbiter's queue: which ask comes first, the head, and what is queued.
 use rig::Arbiter;
 use rig::Desk;
 use rig::Rig;
@@ -19,7 +19,7 @@ fn comes_before(seq: u64, site: u64, other_seq: u64, other_site: u64) -> bool
     seq < other_seq
 }
 
-// The sequence number queued of site k, 0 none.
+// An inner call: the sequence number queued of site k, 0 none.
 pub fn queued_at(queued: &[u64; Rig::SITES], k: u64) -> u64
     requires { ⌜ Listed k ⌝ }
     ensures { λ r. ⌜ r ≡ at 0 (now (queued .entry)) k ⌝ }
@@ -45,7 +45,7 @@ fn head_with(queued: &[u64; Rig::SITES], k: u64, h: u64) -> u64
     h
 }
 
-// The queued site that comes before all others queued, 0 where the queue is empty.
+// An inner call: the queued site that comes before all others queued, 0 where the queue is empty.
 pub fn head(queued: &[u64; Rig::SITES], size: u64) -> u64
     requires { ⌜ size ≤ siteLimit ⌝ }
     ensures { λ r. ⌜ r ≡ head (now (queued .entry)) size ⌝ }
@@ -57,7 +57,7 @@ pub fn head(queued: &[u64; Rig::SITES], size: u64) -> u64
     h
 }
 
-// The desk with n as what is queued of site k.
+// An inner call: the desk with n as what is queued of site k.
 pub fn requeued(d: Desk, k: u64, n: u64) -> Desk
     requires { ⌜ Listed k ⌝ }
     ensures { λ r. ⌜ r ≡ withQueued d k n ⌝ }
@@ -67,7 +67,7 @@ pub fn requeued(d: Desk, k: u64, n: u64) -> Desk
     u
 }
 
-// Whether queued site k comes before the holder.
+// An inner call: whether queued site k comes before the holder.
 pub fn before_holder(queued: &[u64; Rig::SITES], a: Arbiter, k: u64) -> bool
     requires { ⌜ Listed k ⌝ }
     ensures { λ r. ⌜ r ≡ comesBefore (queuedKey (now (queued .entry)) k) (key (a .seq) (a .holder)) ⌝ }
