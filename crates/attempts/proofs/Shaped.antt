@@ -2,18 +2,18 @@
 use Prim.Native.Nat.{ℕ, _≤_}
 use mathlib.Core.Path.{_≡_, refl}
 use mathlib.Core.Logic.{⊎-elim}
-use mathlib.Core.Bool.{true, false, _&&_, _||_, cond}
+use mathlib.Core.Bool.{true, false}
 use mathlib.Core.List.{List}
 use native.Mathlib.Omega.{arith}
-use lib.Dec.{eqb, leb}
+use lib.Dec.{eqb}
 use borrow.Author.Tests.{eqb-true, leb-true, ne-eqb}
 use Rattle.basics.specs.Helpers.{all}
 use Rattle.basics.proofs.Basics.{by-bool, and-split, or-either, all-at, clash}
 use Rattle.rig.specs.declared.Message.{Message}
 use Rattle.rig.specs.Limits.{siteLimit, numberLimit, Listed}
-use Rattle.rig.specs.Messages.{REQUEST, REPLY, RELEASE, INQUIRE, FAIL, YIELD, TRANSFER}
-use Rattle.model.specs.State.{Tables, sizeOf, inRange, hasMember, siteOf, modeOf, arbiterOf, heldOf, deskOf}
-use Rattle.model.specs.Shape.{isNumber, modeShaped, siteShaped, sitesShaped, arbiterShaped, arbitersShaped, setsShaped, acceptedShaped, holderShaped, entryShaped, heldShaped, everywhere, messageShaped, messagesShaped, aboutShaped, numberShaped, tied, tablesShaped, wellShaped}
+use Rattle.rig.specs.Messages.{REPLY}
+use Rattle.model.specs.State.{Tables, sizeOf, inRange, siteOf, modeOf, arbiterOf, heldOf}
+use Rattle.model.specs.Shape.{isNumber, modeShaped, siteShaped, sitesShaped, arbiterShaped, arbitersShaped, setsShaped, acceptedShaped, entryShaped, heldShaped, everywhere, messageShaped, aboutShaped, numberShaped, tied, tablesShaped, wellShaped}
 use Rattle.model.proofs.Shaped.{shaped, ties}
 use Rattle.model.proofs.Delivered.{by-kind, within}
 

@@ -7,7 +7,7 @@ use lib.ListN.{length, length-map}
 use Rattle.rig.specs.declared.Event.{Event}
 use Rattle.rig.specs.Limits.{messageLimit}
 use Rattle.model.specs.Event as M
-use Rattle.model.specs.Run.{OfRun, waitingCount}
+use Rattle.model.specs.Run.{waitingCount}
 use Rattle.model.specs.Printed.{insideUpTo, lineOf}
 use Rattle.model.proofs.OfRun.{run-few, run-shaped}
 use Rattle.members.specs.Ties.{tablesOf}

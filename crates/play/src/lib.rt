@@ -16,7 +16,6 @@ use printing::Page;
 use printing::step_line;
 use printing::stop_line;
 use rig::Event;
-use rig::Rig;
 use rig::Table;
 ghost use mathlib.Core.Path.{_≡_};
 ghost use mathlib.Core.Option.{some};

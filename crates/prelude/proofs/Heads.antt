@@ -1,11 +1,9 @@
 -- How a line before the first event may end: the run stops, goes on, or its events begin.
 use Prim.Native.Nat.{ℕ, _+_, _≤_, _<_}
 use mathlib.Core.Path.{_≡_, refl}
-use mathlib.Core.Bool.{true, false, cond}
 use mathlib.Core.List.{List, [], map}
 use mathlib.Core.Option.{some}
 use native.Mathlib.Numerals.{add-one}
-use lib.Dec.{eqb, ltb}
 use lib.ListN.{length, set}
 use borrow.Author.Tests.{le-leb, lt-ltb}
 use Rattle.rig.specs.declared.Rig.{Rig}
@@ -18,7 +16,7 @@ use Rattle.mail.specs.Rows.{messageOf}
 use Rattle.printing.specs.Printing.{stopLine, Printed}
 use Rattle.prelude.specs.declared.Player.{Player}
 use Rattle.prelude.specs.declared.Said.{Said}
-use Rattle.prelude.specs.declared.Stage.the-variants.{Size, Sets, Events, Over}
+use Rattle.prelude.specs.declared.Stage.the-variants.{Sets, Events}
 use Rattle.prelude.specs.Player.{Outcome, counted, stopped, onSize, allGiven, onSet}
 use Rattle.prelude.specs.Playing.{text, over, Untouched, Playing, Spoke}
 

@@ -1,5 +1,4 @@
 -- A line that is not at its place, by the position of its case.
-use Prim.Native.Nat.{ℕ}
 use mathlib.Core.Path.{_≡_, refl}
 use mathlib.Core.List.{[], _∷_}
 use mathlib.Core.Option.{none}

@@ -8,7 +8,6 @@ use setup::resting;
 use setup::setup;
 ghost use mathlib.Core.Path.{_≡_};
 ghost use Prim.Native.Nat.{_<_, _≤_};
-ghost use lib.ListN.{length};
 ghost use Rattle.rig.specs.Limits.{siteLimit};
 ghost use Rattle.printing.specs.Printing.{stopLine, Printed};
 ghost use Rattle.prelude.specs.declared.Stage.the-variants.{Size, Sets};
