@@ -1,6 +1,6 @@
 -- Where a message stands in a list of rows, and the list with rows taken off or cleared.
 use Prim.Native.Nat.{ℕ, suc, _-_}
-use mathlib.Core.Bool.{cond}
+use mathlib.Core.Bool.{Bool, cond}
 use mathlib.Core.List.{List, [], _∷_, _++_}
 use lib.ListN.{length, take, drop, replicate}
 use Rattle.model.specs.Deliver.{between}
@@ -8,10 +8,14 @@ use Rattle.mail.specs.Rows.{messageOf}
 use Rattle.mail.specs.declared.Found.{Found}
 use Rattle.mail.specs.declared.Found.the-variants.{At, Nowhere}
 
--- the place of the first row from a to b, where the first row has place k
+-- the place of the first entry that passes a test, where the first entry has place k
+abbrev pub placeFrom : {A : Type 0} → ℕ → (A → Bool) → List A → Found
+placeFrom k test [] = Nowhere
+placeFrom k test (x ∷ xs) = cond (test x) (At k) (placeFrom (suc k) test xs)
+
+-- the place of the first row from a to b
 abbrev pub foundFrom : ℕ → ℕ → ℕ → List (List ℕ) → Found
-foundFrom k a b [] = Nowhere
-foundFrom k a b (r ∷ rs) = cond (between a b (messageOf r)) (At k) (foundFrom (suc k) a b rs)
+foundFrom k a b rows = placeFrom k (λ (r : List ℕ). between a b (messageOf r)) rows
 
 abbrev pub foundIn : ℕ → ℕ → List (List ℕ) → Found
 foundIn a b rows = foundFrom 0 a b rows

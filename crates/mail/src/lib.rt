@@ -51,11 +51,11 @@ pub fn append(list: &mut [Row], count: usize, m: Message) -> usize
     count + 1
 }
 
-// Whether a row is a message from a to b.
-fn is_between(r: Row, a: u64, b: u64) -> bool
-    ensures { λ t. ⌜ t ≡ between a b (messageOf r) ⌝ }
+// Whether a message is from a to b.
+pub fn is_between(m: Message, a: u64, b: u64) -> bool
+    ensures { λ t. ⌜ t ≡ between a b m ⌝ }
 {
-    if a == r[1] { b == r[2] } else { false }
+    if a == m.from { b == m.to } else { false }
 }
 
 // The place of the first row from a to b.
@@ -63,8 +63,8 @@ fn search(list: &[Row], a: u64, b: u64) -> Found
     ensures { λ r. ⌜ r ≡ foundIn a b (now (list .entry)) ⌝ }
 {
     for i in 0..list.len() {
-        let m = list[i];
-        if is_between(m, a, b) {
+        let r = list[i];
+        if is_between(message(r), a, b) {
             return Found::At(i);
         }
     }

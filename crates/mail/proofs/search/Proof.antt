@@ -20,20 +20,23 @@ abbrev μ-loop : tie.MeasureT-loop
 loop-holds : tie.Need-loop-holds Inv-loop μ-loop
 loop-holds c = search needs
 
-mul-m : tie.Need-mul-m Inv-loop μ-loop
-mul-m c = search needs
+mul-r : tie.Need-mul-r Inv-loop μ-loop
+mul-r c = search needs
 
-shared-slice-copy-out-m : tie.Need-shared-slice-copy-out-m Inv-loop μ-loop
-shared-slice-copy-out-m c = search needs
+shared-slice-copy-out-r : tie.Need-shared-slice-copy-out-r Inv-loop μ-loop
+shared-slice-copy-out-r c = search needs
+
+message-requires : tie.Need-message-requires Inv-loop μ-loop
+message-requires c κs = search needs
 
 is-between-requires : tie.Need-is-between-requires Inv-loop μ-loop
 is-between-requires c κs = search needs
 
 returns : tie.Need-returns Inv-loop μ-loop
 returns c =
-    let p = c .before .before .before .before in
+    let p = c .before .before .before .before .before in
     let h : p .loop .i < length (p .before .args .list .now) = omega arith in
-    sym (p .loop .inv .2 ∙ rw (drop-cons (p .before .args .list .now) (p .loop .i) []) (simp (sym (c .before .is-between .ensures) ∙ c .if1 .taken)))
+    sym (p .loop .inv .2 ∙ rw (drop-cons (p .before .args .list .now) (p .loop .i) []) (simp (sym (rw (c .before .before .message .ensures) at (c .before .is-between .ensures)) ∙ c .if1 .taken)))
 
 add-i : tie.Need-add-i Inv-loop μ-loop
 add-i c = search needs
@@ -43,9 +46,9 @@ loop-less c = search needs
 
 loop-again : tie.Need-loop-again Inv-loop μ-loop
 loop-again c =
-    let p = c .before .before .before .before in
+    let p = c .before .before .before .before .before in
     let h : p .loop .i < length (p .before .args .list .now) = omega arith in
-    (omega arith, refl, p .loop .inv .2 ∙ rw (drop-cons (p .before .args .list .now) (p .loop .i) []) (simp (sym (c .before .is-between .ensures) ∙ c .if1 .left, add-one)))
+    (omega arith, refl, p .loop .inv .2 ∙ rw (drop-cons (p .before .args .list .now) (p .loop .i) []) (simp (sym (rw (c .before .before .message .ensures) at (c .before .is-between .ensures)) ∙ c .if1 .left, add-one)))
 
 returns-2 : tie.Need-returns-2 Inv-loop μ-loop
 returns-2 c =
@@ -59,8 +62,9 @@ search-spec =
     Inv-loop
     μ-loop
     loop-holds
-    mul-m
-    shared-slice-copy-out-m
+    mul-r
+    shared-slice-copy-out-r
+    message-requires
     is-between-requires
     returns
     add-i
