@@ -1,0 +1,2 @@
+-- Laws of the lists.
+pub mod Search
