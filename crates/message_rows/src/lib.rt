@@ -5,7 +5,7 @@ use mail::row;
 use message_list::append;
 use rig::Message;
 ghost use mathlib.Core.Path.{_≡_};
-ghost use mathlib.Core.Sum.{_⊎_};
+ghost use mathlib.Core.Logic.{_⊎_};
 ghost use mathlib.Core.List.{map};
 ghost use Prim.Native.Nat.{_<_, _≤_, _-_};
 ghost use lib.ListN.{length, drop, getD, set};
