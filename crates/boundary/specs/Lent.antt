@@ -1,6 +1,6 @@
 -- A state whose list is a slice of messages, and the parts of an event on it.
 use Prim.Native.Nat.{ℕ}
-use mathlib.Core.Bool.{not, cond, _||_}
+use mathlib.Core.Bool.{not, cond}
 use mathlib.Core.List.{List}
 use lib.Dec.{eqb, ltb}
 use lib.ListN.{replicate}

@@ -10,7 +10,6 @@ use rig::Message;
 use rig::Rig;
 use rig::Table;
 ghost use mathlib.Core.Path.{_≡_};
-ghost use lib.ListN.{length};
 ghost use Rattle.model.specs.Event.{event};
 ghost use Rattle.accepting.specs.Whole.{stored, answered};
 ghost use Rattle.boundary.specs.Lent.{lent, left, senderOf, receiverOf, readOf, blankRows, judgedRows, changedFrom};

@@ -1,6 +1,6 @@
 -- `append`: a walk of its MIR by hand. The place of `list[count]` is computed, the borrow is opened, the element is taken out of the row
 -- and stored to whole, and the borrow is closed at the list with m in it.
-use mathlib.Core.Path.{_≡_, refl, sym, ap, subst}
+use mathlib.Core.Path.{refl, sym, ap, subst}
 use Prim.Native.Nat.{ℕ, _+_, _<_, _*_, _^_}
 use mathlib.Core.List.{List, [], _∷_}
 use lib.ListN.{length, set, length-set}
