@@ -20,7 +20,8 @@ use Rattle.desks.specs.Whole.{tables}
 use Rattle.accepting.specs.declared.Answer.{Answer}
 use Rattle.accepting.specs.Whole.{stored, answered}
 use Rattle.message_list.specs.First.{firstIn}
-use Rattle.boundary.specs.Lent.{lent, left, senderOf, receiverOf, readOf, blankRows, judgedRows, changedFrom}
+use Rattle.boundary_parts.specs.Parts.{senderOf, receiverOf, readOf, blankRows, judgedRows, changedFrom}
+use Rattle.boundary.specs.Lent.{lent, left}
 use Rattle.boundary.proofs.Lent.{relisted, read-rows, from-fits, from-long, composed}
 
 -- no message past the list's end is read, and none past the 1,024th

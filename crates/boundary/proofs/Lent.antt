@@ -25,7 +25,7 @@ use Rattle.mail.specs.declared.Found.the-variants.{At, Nowhere}
 use Rattle.mail.specs.Places.{placeFrom}
 use Rattle.mail.specs.Rows.{rowOf, messageOf}
 use Rattle.message_list.specs.First.{firstIn}
-use Rattle.boundary.specs.Lent.{senderOf, receiverOf, readOf, blankRows, judgedRows, placeOf, changedFrom}
+use Rattle.boundary_parts.specs.Parts.{senderOf, receiverOf, readOf, blankRows, judgedRows, placeOf, changedFrom}
 
 -- an answer, with another list in the state that it leaves
 abbrev pub relisted : List Message → M.Answer → M.Answer

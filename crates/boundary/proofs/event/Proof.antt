@@ -62,7 +62,8 @@ use Rattle.model.specs.Event as Model
 use Rattle.mail.specs.Rows.{rowOf, messageOf}
 use Rattle.accepting.specs.Whole.{stored, answered}
 use Rattle.message_list.specs.First.{firstIn}
-use Rattle.boundary.specs.Lent.{lent, left, senderOf, receiverOf, readOf, blankRows, judgedRows, changedFrom}
+use Rattle.boundary_parts.specs.Parts.{senderOf, receiverOf, readOf, blankRows, judgedRows, changedFrom}
+use Rattle.boundary.specs.Lent.{lent, left}
 use Rattle.boundary.proofs.Joined.{read-in, read-few, from-in, from-full, joined}
 use Rattle.rig.proofs.Rig as G
 use Rattle.rig.proofs.Rig.Laws as G′
@@ -73,38 +74,38 @@ use Rattle.mail.proofs.Found as F
 use Rattle.mail.proofs.Found.Laws as F′
 use Rattle.accepting.proofs.Answer as K
 use Rattle.accepting.proofs.Answer.Laws as K′
-use Rattle.boundary.proofs.read as read′
-use Rattle.boundary.proofs.read.Symbol as read-def
-use Rattle.boundary.proofs.read.Symbol.{name as #boundary·read}
-use Rattle.boundary.proofs.read.Met as read-thm
-use Rattle.boundary.proofs.sender as sender′
-use Rattle.boundary.proofs.sender.Symbol as sender-def
-use Rattle.boundary.proofs.sender.Symbol.{name as #boundary·sender}
-use Rattle.boundary.proofs.sender.Met as sender-thm
-use Rattle.boundary.proofs.receiver as receiver′
-use Rattle.boundary.proofs.receiver.Symbol as receiver-def
-use Rattle.boundary.proofs.receiver.Symbol.{name as #boundary·receiver}
-use Rattle.boundary.proofs.receiver.Met as receiver-thm
+use Rattle.boundary_parts.proofs.read as read′
+use Rattle.boundary_parts.proofs.read.Symbol as read-def
+use Rattle.boundary_parts.proofs.read.Symbol.{name as #boundary-parts·read}
+use Rattle.boundary_parts.proofs.read.Met as read-thm
+use Rattle.boundary_parts.proofs.sender as sender′
+use Rattle.boundary_parts.proofs.sender.Symbol as sender-def
+use Rattle.boundary_parts.proofs.sender.Symbol.{name as #boundary-parts·sender}
+use Rattle.boundary_parts.proofs.sender.Met as sender-thm
+use Rattle.boundary_parts.proofs.receiver as receiver′
+use Rattle.boundary_parts.proofs.receiver.Symbol as receiver-def
+use Rattle.boundary_parts.proofs.receiver.Symbol.{name as #boundary-parts·receiver}
+use Rattle.boundary_parts.proofs.receiver.Met as receiver-thm
 use Rattle.message_list.proofs.first as first′
 use Rattle.message_list.proofs.first.Symbol as first-def
 use Rattle.message_list.proofs.first.Symbol.{name as #message-list·first}
 use Rattle.message_list.proofs.first.Met as first-thm
-use Rattle.boundary.proofs.blank_rows as blank-rows
-use Rattle.boundary.proofs.blank_rows.Symbol as blank-rows-def
-use Rattle.boundary.proofs.blank_rows.Symbol.{name as #boundary·blank-rows}
-use Rattle.boundary.proofs.blank_rows.Met as blank-rows-thm
+use Rattle.boundary_parts.proofs.blank_rows as blank-rows
+use Rattle.boundary_parts.proofs.blank_rows.Symbol as blank-rows-def
+use Rattle.boundary_parts.proofs.blank_rows.Symbol.{name as #boundary-parts·blank-rows}
+use Rattle.boundary_parts.proofs.blank_rows.Met as blank-rows-thm
 use Rattle.message_rows.proofs.to_rows as to-rows
 use Rattle.message_rows.proofs.to_rows.Symbol as to-rows-def
 use Rattle.message_rows.proofs.to_rows.Symbol.{name as #message-rows·to-rows}
 use Rattle.message_rows.proofs.to_rows.Met as to-rows-thm
-use Rattle.boundary.proofs.on_rows as on-rows
-use Rattle.boundary.proofs.on_rows.Symbol as on-rows-def
-use Rattle.boundary.proofs.on_rows.Symbol.{name as #boundary·on-rows}
-use Rattle.boundary.proofs.on_rows.Met as on-rows-thm
-use Rattle.boundary.proofs.changed_from as changed-from
-use Rattle.boundary.proofs.changed_from.Symbol as changed-from-def
-use Rattle.boundary.proofs.changed_from.Symbol.{name as #boundary·changed-from}
-use Rattle.boundary.proofs.changed_from.Met as changed-from-thm
+use Rattle.boundary_parts.proofs.on_rows as on-rows
+use Rattle.boundary_parts.proofs.on_rows.Symbol as on-rows-def
+use Rattle.boundary_parts.proofs.on_rows.Symbol.{name as #boundary-parts·on-rows}
+use Rattle.boundary_parts.proofs.on_rows.Met as on-rows-thm
+use Rattle.boundary_parts.proofs.changed_from as changed-from
+use Rattle.boundary_parts.proofs.changed_from.Symbol as changed-from-def
+use Rattle.boundary_parts.proofs.changed_from.Symbol.{name as #boundary-parts·changed-from}
+use Rattle.boundary_parts.proofs.changed_from.Met as changed-from-thm
 use Rattle.message_rows.proofs.rewrite as rewrite′
 use Rattle.message_rows.proofs.rewrite.Symbol as rewrite-def
 use Rattle.message_rows.proofs.rewrite.Symbol.{name as #message-rows·rewrite}
@@ -363,7 +364,7 @@ module _ {M : Type 1} (𝓤 : URA M) (H : Heap 𝓤) (A : Atoms 𝓤) (W : Given
   full : (rs : List (List ℕ)) → length rs ≡ 1024 → Room Five (length rs)
   full rs l = subst (Room Five) (sym l) (lit< tt, lit< tt)
 
-  module _ (C : Calls 𝓤 H) (Λ : Loops 𝓤 H) (fm : FmC 𝓤 H (W .laws) C) (known-read : Triple 𝓤 (C #boundary·read) (Read 𝓤 H A mem′ run)) (known-sender : Triple 𝓤 (C #boundary·sender) (Sender 𝓤 H A mem′ run)) (known-receiver : Triple 𝓤 (C #boundary·receiver) (Receiver 𝓤 H A mem′ run)) (known-first : Triple 𝓤 (C #message-list·first) (First 𝓤 H A mem′ run)) (known-blank-rows : Triple 𝓤 (C #boundary·blank-rows) (Blank 𝓤 H A mem′ run)) (known-to-rows : Triple 𝓤 (C #message-rows·to-rows) (ToRows 𝓤 H A mem′ run)) (known-on-rows : Triple 𝓤 (C #boundary·on-rows) (OnRows 𝓤 H A mem′ run)) (known-changed-from : Triple 𝓤 (C #boundary·changed-from) (ChangedFrom 𝓤 H A mem′ run)) (known-rewrite : Triple 𝓤 (C #message-rows·rewrite) (Rewrite 𝓤 H A mem′ run)) where
+  module _ (C : Calls 𝓤 H) (Λ : Loops 𝓤 H) (fm : FmC 𝓤 H (W .laws) C) (known-read : Triple 𝓤 (C #boundary-parts·read) (Read 𝓤 H A mem′ run)) (known-sender : Triple 𝓤 (C #boundary-parts·sender) (Sender 𝓤 H A mem′ run)) (known-receiver : Triple 𝓤 (C #boundary-parts·receiver) (Receiver 𝓤 H A mem′ run)) (known-first : Triple 𝓤 (C #message-list·first) (First 𝓤 H A mem′ run)) (known-blank-rows : Triple 𝓤 (C #boundary-parts·blank-rows) (Blank 𝓤 H A mem′ run)) (known-to-rows : Triple 𝓤 (C #message-rows·to-rows) (ToRows 𝓤 H A mem′ run)) (known-on-rows : Triple 𝓤 (C #boundary-parts·on-rows) (OnRows 𝓤 H A mem′ run)) (known-changed-from : Triple 𝓤 (C #boundary-parts·changed-from) (ChangedFrom 𝓤 H A mem′ run)) (known-rewrite : Triple 𝓤 (C #message-rows·rewrite) (Rewrite 𝓤 H A mem′ run)) where
     walk : ent 𝓤 (onEntry 𝓤 H A event.signature (κ₀, (κ₁, (κ₂, (κ₃, (κ₄, tt))))) (q₀, (q₁, (q₂, (q₃, (q₄, tt))))) x at) (WpFn 𝓤 H C Λ code.function (only (rig-vals g) ∷ ptr-val t₀ ∷ ptr-val t₁ ∷ ptr-val t₂ ∷ ptr-val t₃ ∷ s ∷ vint w64 n ∷ only (event-vals e) ∷ []) Post)
     walk =
         qed W ((‵ (flft κ₀ q₀) ⊛ (‵ (flft κ₁ q₁) ⊛ (‵ (flft κ₂ q₂) ⊛ (‵ (flft κ₃ q₃) ⊛ (‵ (flft κ₄ q₄) ⊛ ‵ ftrue))))) ∷ ‵ (owns (G.the-row ∷ MutRef (named 0) κ₀ Tab ∷ MutRef (named 1) κ₁ Tab ∷ MutRef (named 2) κ₂ Tab ∷ MutRef (named 3) κ₃ Tab ∷ MutSlice (named 4) κ₄ T.the-row ∷ usize ∷ E.the-row ∷ []) x at) ∷ []) ∵
@@ -495,7 +496,7 @@ module _ {M : Type 1} (𝓤 : URA M) (H : Heap 𝓤) (A : Atoms 𝓤) (W : Given
         code-small v r is = LL.owed K.the-type K′.the-laws r (v ∷ []) is .0 .1
 
 module _ {M : Type 1} (𝓤 : URA M) (H : Heap 𝓤) (A : Atoms 𝓤) (W : Given 𝓤 H A) (mem′ : Memory → SProp 𝓤) (run : Routine → Fun 𝓤) where
-  event-walks : (C : Calls 𝓤 H) (Λ : Loops 𝓤 H) → FmC 𝓤 H (W .laws) C → Triple 𝓤 (C #boundary·read) (Read 𝓤 H A mem′ run) → Triple 𝓤 (C #boundary·sender) (Sender 𝓤 H A mem′ run) → Triple 𝓤 (C #boundary·receiver) (Receiver 𝓤 H A mem′ run) → Triple 𝓤 (C #message-list·first) (First 𝓤 H A mem′ run) → Triple 𝓤 (C #boundary·blank-rows) (Blank 𝓤 H A mem′ run) → Triple 𝓤 (C #message-rows·to-rows) (ToRows 𝓤 H A mem′ run) → Triple 𝓤 (C #boundary·on-rows) (OnRows 𝓤 H A mem′ run) → Triple 𝓤 (C #boundary·changed-from) (ChangedFrom 𝓤 H A mem′ run) → Triple 𝓤 (C #message-rows·rewrite) (Rewrite 𝓤 H A mem′ run)
+  event-walks : (C : Calls 𝓤 H) (Λ : Loops 𝓤 H) → FmC 𝓤 H (W .laws) C → Triple 𝓤 (C #boundary-parts·read) (Read 𝓤 H A mem′ run) → Triple 𝓤 (C #boundary-parts·sender) (Sender 𝓤 H A mem′ run) → Triple 𝓤 (C #boundary-parts·receiver) (Receiver 𝓤 H A mem′ run) → Triple 𝓤 (C #message-list·first) (First 𝓤 H A mem′ run) → Triple 𝓤 (C #boundary-parts·blank-rows) (Blank 𝓤 H A mem′ run) → Triple 𝓤 (C #message-rows·to-rows) (ToRows 𝓤 H A mem′ run) → Triple 𝓤 (C #boundary-parts·on-rows) (OnRows 𝓤 H A mem′ run) → Triple 𝓤 (C #boundary-parts·changed-from) (ChangedFrom 𝓤 H A mem′ run) → Triple 𝓤 (C #message-rows·rewrite) (Rewrite 𝓤 H A mem′ run)
       → Walks 𝓤 H A event.ended stayed (WpFn 𝓤 H C Λ code.function) (event.clauses 𝓤 H A mem′ run)
   event-walks C Λ fm k₁ k₂ k₃ k₄ k₅ k₆ k₇ k₈ k₉ = walked 𝓤 H A event.ended stayed (event.clauses 𝓤 H A mem′ run) (WpFn 𝓤 H C Λ code.function)
       (λ κs. (rig-vals, (ptr-vals, (ptr-vals, (ptr-vals, (ptr-vals, (slice-vals, (uint-vals w64, (event-vals, tt)))))))))
@@ -511,7 +512,7 @@ module _ {M : Type 1} (𝓤 : URA M) (H : Heap 𝓤) (A : Atoms 𝓤) (W : Given
     (goes-gave-ref 𝓤 H A W 5 0 tt tab, (goes-gave-ref 𝓤 H A W 5 1 tt tab, (goes-gave-ref 𝓤 H A W 5 2 tt tab, (goes-gave-ref 𝓤 H A W 5 3 tt tab, (goes-gave-slice 𝓤 H A W 5 4 tt (plain (λ _. T.the-row)), (goes-dropped 𝓤 H A W 5 (plain (λ _. usize)) yes (λ κs x f. refl), (goes-dropped 𝓤 H A W 5 (plain (λ _. E.the-row)) yes (λ κs x f. refl), tt))))))),
   )
 
-event-meets : {M : Type 1} (𝓤 : URA M) (H : Heap 𝓤) (A : Atoms 𝓤) (W : Given 𝓤 H A) (mem′ : Memory → SProp 𝓤) (run : Routine → Fun 𝓤) (𝓣 : Tables 𝓤 H) → Triple 𝓤 (𝓣 .C #boundary·read) (Read 𝓤 H A mem′ run) → Triple 𝓤 (𝓣 .C #boundary·sender) (Sender 𝓤 H A mem′ run) → Triple 𝓤 (𝓣 .C #boundary·receiver) (Receiver 𝓤 H A mem′ run) → Triple 𝓤 (𝓣 .C #message-list·first) (First 𝓤 H A mem′ run) → Triple 𝓤 (𝓣 .C #boundary·blank-rows) (Blank 𝓤 H A mem′ run) → Triple 𝓤 (𝓣 .C #message-rows·to-rows) (ToRows 𝓤 H A mem′ run) → Triple 𝓤 (𝓣 .C #boundary·on-rows) (OnRows 𝓤 H A mem′ run) → Triple 𝓤 (𝓣 .C #boundary·changed-from) (ChangedFrom 𝓤 H A mem′ run) → Triple 𝓤 (𝓣 .C #message-rows·rewrite) (Rewrite 𝓤 H A mem′ run)
+event-meets : {M : Type 1} (𝓤 : URA M) (H : Heap 𝓤) (A : Atoms 𝓤) (W : Given 𝓤 H A) (mem′ : Memory → SProp 𝓤) (run : Routine → Fun 𝓤) (𝓣 : Tables 𝓤 H) → Triple 𝓤 (𝓣 .C #boundary-parts·read) (Read 𝓤 H A mem′ run) → Triple 𝓤 (𝓣 .C #boundary-parts·sender) (Sender 𝓤 H A mem′ run) → Triple 𝓤 (𝓣 .C #boundary-parts·receiver) (Receiver 𝓤 H A mem′ run) → Triple 𝓤 (𝓣 .C #message-list·first) (First 𝓤 H A mem′ run) → Triple 𝓤 (𝓣 .C #boundary-parts·blank-rows) (Blank 𝓤 H A mem′ run) → Triple 𝓤 (𝓣 .C #message-rows·to-rows) (ToRows 𝓤 H A mem′ run) → Triple 𝓤 (𝓣 .C #boundary-parts·on-rows) (OnRows 𝓤 H A mem′ run) → Triple 𝓤 (𝓣 .C #boundary-parts·changed-from) (ChangedFrom 𝓤 H A mem′ run) → Triple 𝓤 (𝓣 .C #message-rows·rewrite) (Rewrite 𝓤 H A mem′ run)
     → Meets 𝓤 H A event.signature (WpFn 𝓤 H (𝓣 .C) (𝓣 .Λ) code.function) (event.spec 𝓤 H A mem′ run)
 event-meets 𝓤 H A W mem′ run 𝓣 k₁ k₂ k₃ k₄ k₅ k₆ k₇ k₈ k₉ =
     walk-meets 𝓤 H A event.ended stayed W (goes 𝓤 H A W mem′ run) (event.clauses 𝓤 H A mem′ run)
@@ -523,12 +524,12 @@ event-spec 𝓤 H 𝓜 𝓖 𝓡 =
     entered 𝓤 H (tripleOf 𝓤 H (𝓖 .A) event.signature (event.spec 𝓤 H (𝓖 .A) (𝓜 .mem) (𝓡 .run)))
     (tables 𝓤 H 𝓜 𝓡 code.env .C) (tables 𝓤 H 𝓜 𝓡 code.env .Λ) #boundary·event code.function (code.unfolded 𝓤 H 𝓜 𝓡)
     (event-meets 𝓤 H (𝓖 .A) (givenOf 𝓤 H 𝓜 𝓖) (𝓜 .mem) (𝓡 .run) (tablesOf 𝓤 H 𝓜 (tables 𝓤 H 𝓜 𝓡 code.env))
-    (cited 𝓤 H (Read 𝓤 H (𝓖 .A) (𝓜 .mem) (𝓡 .run)) 𝓜 𝓡 code.env #boundary·read read-def.routine code.calls-boundary·read (read-thm.met 𝓤 H 𝓜 𝓖 𝓡))
-    (cited 𝓤 H (Sender 𝓤 H (𝓖 .A) (𝓜 .mem) (𝓡 .run)) 𝓜 𝓡 code.env #boundary·sender sender-def.routine code.calls-boundary·sender (sender-thm.met 𝓤 H 𝓜 𝓖 𝓡))
-    (cited 𝓤 H (Receiver 𝓤 H (𝓖 .A) (𝓜 .mem) (𝓡 .run)) 𝓜 𝓡 code.env #boundary·receiver receiver-def.routine code.calls-boundary·receiver (receiver-thm.met 𝓤 H 𝓜 𝓖 𝓡))
+    (cited 𝓤 H (Read 𝓤 H (𝓖 .A) (𝓜 .mem) (𝓡 .run)) 𝓜 𝓡 code.env #boundary-parts·read read-def.routine code.calls-boundary-parts·read (read-thm.met 𝓤 H 𝓜 𝓖 𝓡))
+    (cited 𝓤 H (Sender 𝓤 H (𝓖 .A) (𝓜 .mem) (𝓡 .run)) 𝓜 𝓡 code.env #boundary-parts·sender sender-def.routine code.calls-boundary-parts·sender (sender-thm.met 𝓤 H 𝓜 𝓖 𝓡))
+    (cited 𝓤 H (Receiver 𝓤 H (𝓖 .A) (𝓜 .mem) (𝓡 .run)) 𝓜 𝓡 code.env #boundary-parts·receiver receiver-def.routine code.calls-boundary-parts·receiver (receiver-thm.met 𝓤 H 𝓜 𝓖 𝓡))
     (cited 𝓤 H (First 𝓤 H (𝓖 .A) (𝓜 .mem) (𝓡 .run)) 𝓜 𝓡 code.env #message-list·first first-def.routine code.calls-message-list·first (first-thm.met 𝓤 H 𝓜 𝓖 𝓡))
-    (cited 𝓤 H (Blank 𝓤 H (𝓖 .A) (𝓜 .mem) (𝓡 .run)) 𝓜 𝓡 code.env #boundary·blank-rows blank-rows-def.routine code.calls-boundary·blank-rows (blank-rows-thm.met 𝓤 H 𝓜 𝓖 𝓡))
+    (cited 𝓤 H (Blank 𝓤 H (𝓖 .A) (𝓜 .mem) (𝓡 .run)) 𝓜 𝓡 code.env #boundary-parts·blank-rows blank-rows-def.routine code.calls-boundary-parts·blank-rows (blank-rows-thm.met 𝓤 H 𝓜 𝓖 𝓡))
     (cited 𝓤 H (ToRows 𝓤 H (𝓖 .A) (𝓜 .mem) (𝓡 .run)) 𝓜 𝓡 code.env #message-rows·to-rows to-rows-def.routine code.calls-message-rows·to-rows (to-rows-thm.met 𝓤 H 𝓜 𝓖 𝓡))
-    (cited 𝓤 H (OnRows 𝓤 H (𝓖 .A) (𝓜 .mem) (𝓡 .run)) 𝓜 𝓡 code.env #boundary·on-rows on-rows-def.routine code.calls-boundary·on-rows (on-rows-thm.met 𝓤 H 𝓜 𝓖 𝓡))
-    (cited 𝓤 H (ChangedFrom 𝓤 H (𝓖 .A) (𝓜 .mem) (𝓡 .run)) 𝓜 𝓡 code.env #boundary·changed-from changed-from-def.routine code.calls-boundary·changed-from (changed-from-thm.met 𝓤 H 𝓜 𝓖 𝓡))
+    (cited 𝓤 H (OnRows 𝓤 H (𝓖 .A) (𝓜 .mem) (𝓡 .run)) 𝓜 𝓡 code.env #boundary-parts·on-rows on-rows-def.routine code.calls-boundary-parts·on-rows (on-rows-thm.met 𝓤 H 𝓜 𝓖 𝓡))
+    (cited 𝓤 H (ChangedFrom 𝓤 H (𝓖 .A) (𝓜 .mem) (𝓡 .run)) 𝓜 𝓡 code.env #boundary-parts·changed-from changed-from-def.routine code.calls-boundary-parts·changed-from (changed-from-thm.met 𝓤 H 𝓜 𝓖 𝓡))
     (cited 𝓤 H (Rewrite 𝓤 H (𝓖 .A) (𝓜 .mem) (𝓡 .run)) 𝓜 𝓡 code.env #message-rows·rewrite rewrite-def.routine code.calls-message-rows·rewrite (rewrite-thm.met 𝓤 H 𝓜 𝓖 𝓡)))

@@ -1,9 +1,9 @@
 -- `on_rows`: 13, then the event.
 use borrow.Author.Needs.{needs}
 use borrow.Author.Tests.{eq-eqb, ne-eqb}
-use Rattle.boundary.specs.Lent.{judgedRows}
-use Rattle.boundary.proofs.on_rows.Statement.{statement}
-use Rattle.boundary.proofs.on_rows.Tie as tie
+use Rattle.boundary_parts.specs.Parts.{judgedRows}
+use Rattle.boundary_parts.proofs.on_rows.Statement.{statement}
+use Rattle.boundary_parts.proofs.on_rows.Tie as tie
 
 returns : tie.Need-returns
 unfolding judgedRows

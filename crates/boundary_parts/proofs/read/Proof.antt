@@ -1,8 +1,8 @@
 -- `read`: two tests.
 use borrow.Author.Tests.{eq-eqb, ne-eqb, lt-ltb, le-ltb}
 use Rattle.rig.specs.Limits.{messageLimit}
-use Rattle.boundary.proofs.read.Statement.{statement}
-use Rattle.boundary.proofs.read.Tie as tie
+use Rattle.boundary_parts.proofs.read.Statement.{statement}
+use Rattle.boundary_parts.proofs.read.Tie as tie
 
 returns : tie.Need-returns
 returns c = rw (ne-eqb _ _ (c .if1 .taken))

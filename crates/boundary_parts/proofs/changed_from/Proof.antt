@@ -1,8 +1,8 @@
 -- `changed_from`: two tests.
 use borrow.Author.Needs.{needs}
 use borrow.Author.Tests.{eq-eqb, ne-eqb}
-use Rattle.boundary.proofs.changed_from.Statement.{statement}
-use Rattle.boundary.proofs.changed_from.Tie as tie
+use Rattle.boundary_parts.proofs.changed_from.Statement.{statement}
+use Rattle.boundary_parts.proofs.changed_from.Tie as tie
 
 returns : tie.Need-returns
 returns c = rw (ne-eqb _ _ (c .if1 .taken))
