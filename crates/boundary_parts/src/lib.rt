@@ -9,6 +9,8 @@ ghost use mathlib.Core.Path.{_≡_};
 ghost use Rattle.accepting.specs.Whole.{stored, answered};
 ghost use Rattle.boundary_parts.specs.Parts.{senderOf, receiverOf, readOf, blankRows, judgedRows, changedFrom};
 
+pub type Rows = [Row; Rig::MESSAGES];
+
 // The site that a delivery is from, 0 for an ask or a leave.
 pub fn sender(e: Event) -> u64
     ensures { λ r. ⌜ r ≡ senderOf e ⌝ }
@@ -44,7 +46,8 @@ pub fn read(count: usize, len: usize) -> usize
     count
 }
 
-pub fn blank_rows() -> [Row; Rig::MESSAGES]
+// A row for each message that may be under way, all of zeros.
+pub fn blank_rows() -> Rows
     ensures { λ r. ⌜ r ≡ blankRows ⌝ }
 {
     [[0; 5]; Rig::MESSAGES]

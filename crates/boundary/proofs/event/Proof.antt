@@ -374,6 +374,7 @@ module _ {M : Type 1} (𝓤 : URA M) (H : Heap 𝓤) (A : Atoms 𝓤) (W : Given
         enter ! C Λ code.function (only (rig-vals g) ∷ ptr-val t₀ ∷ ptr-val t₁ ∷ ptr-val t₂ ∷ ptr-val t₃ ∷ s ∷ vint w64 n ∷ only (event-vals e) ∷ []) _ $
         alloc1 ! (λ l₀. alloc1 ! (λ l₁. alloc1 ! (λ l₂. alloc1 ! (λ l₃. alloc1 ! (λ l₄. alloc1 ! (λ l₅. alloc1 ! (λ l₆. alloc1 ! (λ l₇. alloc1 ! (λ l₈. alloc1 ! (λ l₉. alloc1 ! (λ l₁₀. alloc1 ! (λ l₁₁. alloc1 ! (λ l₁₂. alloc1 ! (λ l₁₃. alloc1 ! (λ l₁₄. alloc1 ! (λ l₁₅. alloc1 ! (λ l₁₆. alloc1 ! (λ l₁₇. alloc1 ! (λ l₁₈. alloc1 ! (λ l₁₉. alloc1 ! (λ l₂₀. alloc1 ! (λ l₂₁. alloc1 ! (λ l₂₂. alloc1 ! (λ l₂₃. alloc1 ! (λ l₂₄. alloc1 ! (λ l₂₅. alloc1 ! (λ l₂₆. alloc1 ! (λ l₂₇. alloc1 ! (λ l₂₈. alloc1 ! (λ l₂₉. alloc1 ! (λ l₃₀. alloc1 ! (λ l₃₁. alloc1 ! (λ l₃₂. alloc1 ! (λ l₃₃. alloc1 ! (λ l₃₄. alloc0 ! $ params1 ! $
         pass1 ! (init ! 66 refl (LL.lawful G.the-type G′.the-laws 𝓤 H A W .typed g (rig-vals g) gg .0)) $ pass1 ! (init ! 64 refl (tt, tt)) $ pass1 ! (init ! 62 refl (tt, tt)) $ pass1 ! (init ! 60 refl (tt, tt)) $ pass1 ! (init ! 58 refl (tt, tt)) $ pass1 ! (init ! 56 refl (tt, (tt, (record { fits = room .0 }, tt)))) $ pass1 ! (init ! 54 refl (tt, record { fits = gn })) $ pass1 ! (init ! 52 refl (EL.lawful E.the-type E′.the-laws 𝓤 H A W tt .typed e (event-vals e) ge .0)) $ pass0 ! $
+        -- [_34; …; _0; …; obs; the list's borrow; the list's token; the tables and their tokens]
         assigns ! (of-opd ! (load ! (from ! (fld ! refl (stop !))) (look-in ! 56 (sub ! 1 refl (whole !))))) (from ! (stop !)) (init ! 50 refl (tt, record { fits = room .0 })) $
         use0 W (raw (Read 𝓤 H A mem′ run .pre to-read)) goes-read $
         calls-at ! fm (Read 𝓤 H A mem′ run) known-read to-read (and-then ! (load ! (from ! (stop !)) (look ! 55 refl)) (and-then ! (load ! (from ! (stop !)) (look ! 51 refl)) (no-more !))) (λ v₁.
@@ -397,14 +398,17 @@ module _ {M : Type 1} (𝓤 : URA M) (H : Heap 𝓤) (A : Atoms 𝓤) (W : Given
         land ! (from ! (stop !)) (init ! 34 refl (uint-lawful 𝓤 H A W w64 .typed r₃ (v₃ ∷ []) is₃ .0)) $
         rewrite ! 34 (λ (u : Val). ‵ (fat fullShare (tyInt w64) l₁₇ 0 u)) (number v₃ r₃ (receiverOf e) p₃ is₃) refl $
         move ! (70 ∷ 71 ∷ 72 ∷ []) $ opens-slice ! tt T.the-row ys bk o $
+        -- [the row of the list; its open borrow; obs; auth; _34; …; _0; …; the tables and their tokens]
         -- the list is lent as `&` to `first`
         feqI ! ℕ (length ys) (length ys) refl $ fjoin ! $ lft-new ! tt (λ α₁. move ! (1 ∷ []) $ use1 W (later (some (λ (δ : GName). ‵ (ShrSlice (named 0) (α₁ ∷ []) T.the-row .own (xs δ ys) (s ∷ [])) ⊛ ‵ (flent (α₁ ∷ []) (arr-parts (shares T.the-row) (length ys) .part fullShare ys bk o))))) (lends-shr-slice 𝓤 H A W T.the-row (named 0) (α₁ ∷ []) fullShare ys bk o room) $ await ! tt $ pick ! (λ δ₁. split ! $
         move ! (2 ∷ 0 ∷ []) $
         use2 W (raw (First 𝓤 H A mem′ run .pre (to-first α₁ δ₁))) (goes-first α₁ δ₁ (small v₁ r₁ k p₁ is₁) (small v₂ r₂ (senderOf e) p₂ is₂) (small v₃ r₃ (receiverOf e) p₃ is₃)) $
+        -- [what the callee asks; its lender's part; its open borrow; obs; auth; _34; …; _0; …; the tables and their tokens]
         calls-at ! fm (First 𝓤 H A mem′ run) known-first (to-first α₁ δ₁) (and-then ! (load ! (from ! (stop !)) (look ! 43 refl)) (and-then ! (load ! (from ! (stop !)) (look ! 53 refl)) (and-then ! (load ! (from ! (stop !)) (look ! 41 refl)) (and-then ! (load ! (from ! (stop !)) (look ! 39 refl)) (no-more !))))) (λ v₄.
         use1 W (later (some (λ (r : Found). ((‵ (flft (α₁ ∷ []) fullShare) ⊛ ‵ ftrue) ⊛ ‵ (F.the-row .own r (v₄ ∷ []))) ⊛ raw (ensured 𝓤 H A first′.ended (first′.clauses 𝓤 H A mem′ run) (α₁ ∷ [], tt) (xs δ₁ ys, (k, (senderOf e, (receiverOf e, tt)))) tt r)))) (id⊢ 𝓤 _) $ await ! tt $ pick ! (λ r₄.
         split ! $ move ! (1 ∷ []) $ use1 W (raw (fact 𝓤 (r₄ ≡ place))) (said-first α₁ δ₁ r₄) $ heard ! (r₄ ≡ place) (λ p₄. split ! $ split ! $ move ! (1 ∷ []) $ drop ! $ move ! (1 ∷ []) $ facts ! F.the-row (Is F.the-row) (shows 𝓤 H A F.the-row) r₄ (v₄ ∷ []) (λ is₄. lft-end ! tt $ lent-back ! tt $ fsplit ! $ drop ! $
         land ! (from ! (stop !)) (init ! 50 refl (EL.lawful F.the-type F′.the-laws 𝓤 H A W tt .typed r₄ (v₄ ∷ []) is₄ .0)) $
+        -- [the row of the list; its open borrow; obs; auth; _34; …; _0; …; the tables and their tokens]
         -- the rows, blank
         use0 W (raw (Blank 𝓤 H A mem′ run .pre to-blank)) goes-blank $
         calls-at ! fm (Blank 𝓤 H A mem′ run) known-blank-rows to-blank (no-more !) (λ v₅.
@@ -424,6 +428,7 @@ module _ {M : Type 1} (𝓤 : URA M) (H : Heap 𝓤) (A : Atoms 𝓤) (W : Given
         move ! (50 ∷ []) $ use1 W (‵ (row Five fullShare rs l₁₂ 0)) (apart 𝓤 H A W rs l₁₂ (blank-is v₅ rs is₅)) $ use1 W (‵ (cells (mem Five) rs l₁₂ 0)) (whole-in 𝓤 H A W Five rs l₁₂ 0) $ lft-new ! tt (λ β₁. move ! (1 ∷ []) $ use1 W (later (some (λ (δ : GName). ‵ (MutSlice (named 1) (β₁ ∷ []) Five .own (rows l₁₂ δ rs) (sliceVal (l₁₂, 0) (length rs) ∷ [])) ⊛ ‵ (flent (β₁ ∷ []) (Held Five (length rs) l₁₂ 0 δ))))) (lends-slice 𝓤 H A W Five (named 1) (β₁ ∷ []) rs l₁₂ 0 (full rs (long v₅ rs is₅))) $ await ! tt $ pick ! (λ ε₁. split ! $
         move ! (5 ∷ 3 ∷ 2 ∷ 0 ∷ []) $
         group ! 4 $ use1 W (raw (ToRows 𝓤 H A mem′ run .pre (to-to-rows α₂ δ₂ β₁ ε₁ l₁₂ rs))) (goes-to-rows α₂ δ₂ β₁ ε₁ l₁₂ rs (small v₁ r₁ k p₁ is₁) (read-in n ys, subst (λ (j : ℕ). k ≤ j) (sym (long v₅ rs is₅)) (read-few n (length ys)))) $
+        -- [what the callee asks; their lender's part; its lender's part; its open borrow; obs; auth; _34; …; _13; …; what frees _12; _11; …; _0; …; the tables and their tokens]
         calls-at ! fm (ToRows 𝓤 H A mem′ run) known-to-rows (to-to-rows α₂ δ₂ β₁ ε₁ l₁₂ rs) (and-then ! (load ! (from ! (stop !)) (look ! 32 refl)) (and-then ! (load ! (from ! (stop !)) (look ! 53 refl)) (and-then ! (load ! (from ! (stop !)) (look ! 28 refl)) (no-more !)))) (λ v₆.
         use1 W (later (some (λ (r : Unit {0}). ((‵ (flft (α₂ ∷ []) fullShare) ⊛ (‵ (flft (β₁ ∷ []) fullShare) ⊛ ‵ ftrue)) ⊛ ‵ (unit .own r (v₆ ∷ []))) ⊛ raw (ensured 𝓤 H A to-rows.ended (to-rows.clauses 𝓤 H A mem′ run) (α₂ ∷ [], (β₁ ∷ [], tt)) (xs δ₂ ys, (k, (rows l₁₂ ε₁ rs, tt))) tt r)))) (id⊢ 𝓤 _) $ await ! tt $ pick ! (λ r₆.
         split ! $ move ! (1 ∷ []) $ use1 W (some (λ (ws : Unit {0} × (Unit {0} × (List (List ℕ) × Unit {0}))). ‵ (lasts to-rows.ended (α₂ ∷ [], (β₁ ∷ [], tt)) (xs δ₂ ys, (k, (rows l₁₂ ε₁ rs, tt))) ws) ⊛ raw (fact 𝓤 (ws .1 .1 .0 ≡ paste rs 0 (map rowOf ys) k)))) (id⊢ 𝓤 _) $ pick ! (λ ws.
@@ -432,6 +437,7 @@ module _ {M : Type 1} (𝓤 : URA M) (H : Heap 𝓤) (A : Atoms 𝓤) (W : Given
         move ! (1 ∷ []) $ lft-end ! tt $ move ! (0 ∷ 3 ∷ 2 ∷ []) $ use3 W (later (‵ (Arr (mem Five) (length rs) .lies (ws .1 .1 .0) l₁₂ 0))) (slice-back 𝓤 H A W Five (β₁ ∷ []) ε₁ (ws .1 .1 .0) (length rs) l₁₂ 0) $ await ! tt $ fsplit ! $ drop ! $ use1 W (‵ (row Five fullShare (ws .1 .1 .0) l₁₂ 0)) (whole-out 𝓤 H A W Five (ws .1 .1 .0) l₁₂ 0) $
         use1 W (given (Is B (ws .1 .1 .0) (all (ws .1 .1 .0))) (‵ (fat fullShare arr l₁₂ 0 (only (all (ws .1 .1 .0)))))) (together 𝓤 H A W (ws .1 .1 .0) l₁₂ (m₁ ∙ long v₅ rs is₅)) $ learn ! (λ g₁.
         land ! (from ! (stop !)) (init ! 35 refl (nothing-lawful 𝓤 H A W .typed r₆ (v₆ ∷ []) is₆ .0)) $
+        -- [_12; the row of the list; its open borrow; obs; auth; _34; …; _13; …; what frees _12; _11; …; _0; …; the tables and their tokens]
         -- `&mut *` of the tables, and `&mut rows`
         assigns ! (addr ! (from ! (hop ! (look ! 68 refl) (stop !)))) (from ! (stop !)) (init ! 25 refl (tt, tt)) $
         assigns ! (addr ! (from ! (hop ! (look ! 66 refl) (stop !)))) (from ! (stop !)) (init ! 23 refl (tt, tt)) $
@@ -444,6 +450,7 @@ module _ {M : Type 1} (𝓤 : URA M) (H : Heap 𝓤) (A : Atoms 𝓤) (W : Given
         use1 W (‵ (row Five fullShare (ws .1 .1 .0) l₁₂ 0)) (apart 𝓤 H A W (ws .1 .1 .0) l₁₂ g₁) $ use1 W (‵ (cells (mem Five) (ws .1 .1 .0) l₁₂ 0)) (whole-in 𝓤 H A W Five (ws .1 .1 .0) l₁₂ 0) $ lft-new ! tt (λ β₂. move ! (1 ∷ []) $ use1 W (later (some (λ (δ : GName). ‵ (MutSlice (named 1) (β₂ ∷ []) Five .own (rows l₁₂ δ (ws .1 .1 .0)) (sliceVal (l₁₂, 0) (length (ws .1 .1 .0)) ∷ [])) ⊛ ‵ (flent (β₂ ∷ []) (Held Five (length (ws .1 .1 .0)) l₁₂ 0 δ))))) (lends-slice 𝓤 H A W Five (named 1) (β₂ ∷ []) (ws .1 .1 .0) l₁₂ 0 (full (ws .1 .1 .0) (m₁ ∙ long v₅ rs is₅))) $ await ! tt $ pick ! (λ ε₂. split ! $
         move ! (77 ∷ 79 ∷ 81 ∷ 83 ∷ 2 ∷ 76 ∷ 78 ∷ 80 ∷ 82 ∷ 0 ∷ []) $
         group ! 10 $ use1 W (raw (OnRows 𝓤 H A mem′ run .pre (to-on-rows β₂ l₁₂ ε₂ (ws .1 .1 .0)))) (goes-on-rows β₂ l₁₂ ε₂ (ws .1 .1 .0)) $
+        -- [what the callee asks; their lender's part; the row of the list; its open borrow; obs; auth; _34; …; _13; …; what frees _12; _11; …; _0; …]
         calls-at ! fm (OnRows 𝓤 H A mem′ run) known-on-rows (to-on-rows β₂ l₁₂ ε₂ (ws .1 .1 .0)) (and-then ! (load ! (from ! (stop !)) (look ! 71 refl)) (and-then ! (load ! (from ! (stop !)) (look ! 26 refl)) (and-then ! (load ! (from ! (stop !)) (look ! 24 refl)) (and-then ! (load ! (from ! (stop !)) (look ! 22 refl)) (and-then ! (load ! (from ! (stop !)) (look ! 20 refl)) (and-then ! (load ! (from ! (stop !)) (look ! 16 refl)) (and-then ! (load ! (from ! (stop !)) (look ! 55 refl)) (and-then ! (load ! (from ! (stop !)) (look ! 59 refl)) (and-then ! (load ! (from ! (stop !)) (look ! 57 refl)) (no-more !)))))))))) (λ v₇.
         use1 W (later (some (λ (r : Answer). ((‵ (flft κ₀ q₀) ⊛ (‵ (flft κ₁ q₁) ⊛ (‵ (flft κ₂ q₂) ⊛ (‵ (flft κ₃ q₃) ⊛ (‵ (flft (β₂ ∷ []) fullShare) ⊛ ‵ ftrue))))) ⊛ ‵ (K.the-row .own r (v₇ ∷ []))) ⊛ raw (ensured 𝓤 H A on-rows.ended (on-rows.clauses 𝓤 H A mem′ run) (κ₀, (κ₁, (κ₂, (κ₃, (β₂ ∷ [], tt))))) (g, (t₀, (t₁, (t₂, (t₃, (rows l₁₂ ε₂ (ws .1 .1 .0), (length ys, (n, (e, tt))))))))) tt r)))) (id⊢ 𝓤 _) $ await ! tt $ pick ! (λ r₇.
         split ! $ move ! (1 ∷ []) $ use1 W (some (λ (us : Unit {0} × (List (List ℕ) × (List (List ℕ) × (List (List ℕ) × (List (List ℕ) × (List (List ℕ) × (Unit {0} × (Unit {0} × (Unit {0} × Unit {0}))))))))). ‵ (lasts on-rows.ended (κ₀, (κ₁, (κ₂, (κ₃, (β₂ ∷ [], tt))))) (g, (t₀, (t₁, (t₂, (t₃, (rows l₁₂ ε₂ (ws .1 .1 .0), (length ys, (n, (e, tt))))))))) us) ⊛ raw (fact 𝓤 (Says r₇ (us .1 .0) (us .1 .1 .0) (us .1 .1 .1 .0) (us .1 .1 .1 .1 .0) (us .1 .1 .1 .1 .1 .0) (ws .1 .1 .0))))) (id⊢ 𝓤 _) $ pick ! (λ us.
@@ -453,6 +460,7 @@ module _ {M : Type 1} (𝓤 : URA M) (H : Heap 𝓤) (A : Atoms 𝓤) (W : Given
         use1 W (given (Is B (us .1 .1 .1 .1 .1 .0) (all (us .1 .1 .1 .1 .1 .0))) (‵ (fat fullShare arr l₁₂ 0 (only (all (us .1 .1 .1 .1 .1 .0)))))) (together 𝓤 H A W (us .1 .1 .1 .1 .1 .0) l₁₂ (m₂ ∙ (m₁ ∙ long v₅ rs is₅))) $ learn ! (λ g₂.
         land ! (from ! (stop !)) (init ! 55 refl (LL.lawful K.the-type K′.the-laws 𝓤 H A W .typed r₇ (v₇ ∷ []) is₇ .0)) $
         rewrite ! 55 (λ (u : Val). ‵ (fat fullShare K′.mir l₁₃ 0 u)) (ap only (known-answer v₇ r₇ is₇)) refl $
+        -- [_12; the tables and their tokens; the row of the list; its open borrow; obs; auth; _34; …; _13; …; what frees _12; _11; …; _0; …]
         -- `&mut *list`; where it is rewritten from; `&rows`
         assigns ! (addr ! (from ! (fld ! refl (hop ! (look-in ! 68 (sub ! 0 refl (whole !))) (stop !))))) (from ! (stop !)) (init ! 21 refl (tt, tt)) $
         assigns ! (agg ! (and-then ! (load ! (from ! (stop !)) (look ! 21 refl)) (and-then ! (load ! (from ! (fld ! refl (stop !))) (look-in ! 68 (sub ! 1 refl (whole !)))) (no-more !)))) (from ! (stop !)) (init ! 19 refl (tt, (tt, (record { fits = room .0 }, tt)))) $
@@ -470,6 +478,7 @@ module _ {M : Type 1} (𝓤 : URA M) (H : Heap 𝓤) (A : Atoms 𝓤) (W : Given
         move ! (11 ∷ 12 ∷ 13 ∷ 14 ∷ []) $ closes-slice ! tt T.the-row ys ys refl bk o $ fjoin ! $ pureI ! (at-slice T.the-row (xs γ ys) (s ∷ [])) (tt, (tt, tt)) (refl, room) $ fjoin ! $
         move ! (1 ∷ 0 ∷ 4 ∷ 2 ∷ []) $
         group ! 4 $ use1 W (raw (Rewrite 𝓤 H A mem′ run .pre (to-rewrite r₇ β₃ ε₃ l₁₂ (us .1 .1 .1 .1 .1 .0)))) (goes-rewrite r₇ β₃ ε₃ l₁₂ (us .1 .1 .1 .1 .1 .0) (small v₈ r₈ (start r₇) p₈ is₈) (from-in g (t₀ .now) (t₁ .now) (t₂ .now) (t₃ .now) ys n e r₇ (us .1 .0) (us .1 .1 .0) (us .1 .1 .1 .0) (us .1 .1 .1 .1 .0) rs (ws .1 .1 .0) (us .1 .1 .1 .1 .1 .0) p₅ p₆ p₇, from-full g (t₀ .now) (t₁ .now) (t₂ .now) (t₃ .now) ys n e r₇ (us .1 .0) (us .1 .1 .0) (us .1 .1 .1 .0) (us .1 .1 .1 .1 .0) rs (ws .1 .1 .0) (us .1 .1 .1 .1 .1 .0) p₅ p₆ p₇ (m₂ ∙ (m₁ ∙ long v₅ rs is₅)))) $
+        -- [what the callee asks; their lender's part; the tables and their tokens; _34; …; _13; …; what frees _12; _11; …; _0; …]
         calls-at ! fm (Rewrite 𝓤 H A mem′ run) known-rewrite (to-rewrite r₇ β₃ ε₃ l₁₂ (us .1 .1 .1 .1 .1 .0)) (and-then ! (load ! (from ! (stop !)) (look ! 16 refl)) (and-then ! (load ! (from ! (stop !)) (look ! 14 refl)) (and-then ! (load ! (from ! (stop !)) (look ! 10 refl)) (no-more !)))) (λ v₉.
         use1 W (later (some (λ (r : Unit {0}). ((‵ (flft κ₄ q₄) ⊛ (‵ (flft (β₃ ∷ []) fullShare) ⊛ ‵ ftrue)) ⊛ ‵ (unit .own r (v₉ ∷ []))) ⊛ raw (ensured 𝓤 H A rewrite′.ended (rewrite′.clauses 𝓤 H A mem′ run) (κ₄, (β₃ ∷ [], tt)) (xs γ ys, (start r₇, (rows l₁₂ ε₃ (us .1 .1 .1 .1 .1 .0), tt))) tt r)))) (id⊢ 𝓤 _) $ await ! tt $ pick ! (λ r₉.
         split ! $ move ! (1 ∷ []) $ use1 W (some (λ (zs : List Message × (Unit {0} × (Unit {0} × Unit {0}))). ‵ (lasts rewrite′.ended (κ₄, (β₃ ∷ [], tt)) (xs γ ys, (start r₇, (rows l₁₂ ε₃ (us .1 .1 .1 .1 .1 .0), tt))) zs) ⊛ raw (fact 𝓤 (zs .0 ≡ paste ys (start r₇) (past (start r₇) (map messageOf (us .1 .1 .1 .1 .1 .0))) (length ys - start r₇))))) (id⊢ 𝓤 _) $ pick ! (λ zs.
@@ -477,6 +486,7 @@ module _ {M : Type 1} (𝓤 : URA M) (H : Heap 𝓤) (A : Atoms 𝓤) (W : Given
         move ! (1 ∷ []) $ split ! $ move ! (1 ∷ []) $ facts ! unit (Is unit) (shows 𝓤 H A unit) r₉ (v₉ ∷ []) (λ is₉. split ! $ move ! (1 ∷ []) $ split ! $ move ! (1 ∷ []) $ drop ! $ move ! (0 ∷ 3 ∷ []) $ lft-end ! tt $ lent-back ! tt $ fsplit ! $ drop ! $
         use1 W (given (Is B (us .1 .1 .1 .1 .1 .0) (all (us .1 .1 .1 .1 .1 .0))) (‵ (fat fullShare arr l₁₂ 0 (only (all (us .1 .1 .1 .1 .1 .0)))))) (together 𝓤 H A W (us .1 .1 .1 .1 .1 .0) l₁₂ (m₂ ∙ (m₁ ∙ long v₅ rs is₅))) $ learn ! (λ g₃.
         land ! (from ! (stop !)) (store ! 41 refl (nothing-lawful 𝓤 H A W .typed r₉ (v₉ ∷ []) is₉ .0)) $
+        -- [_12; the list's token; its last list; the tables and their tokens; _34; …; _13; …; what frees _12; _11; …; _0; …]
         assigns ! (of-opd ! (load ! (from ! (stop !)) (look ! 53 refl))) (from ! (stop !)) (init ! 78 refl (LL.lawful K.the-type K′.the-laws 𝓤 H A W .typed r₇ (answer-vals r₇) (answer-is v₇ r₇ is₇) .0)) $
         returns ! (look ! 78 refl) $
         forget ! 78 refl $ forget ! 76 refl $ forget ! 74 refl $ forget ! 72 refl $ forget ! 70 refl $ forget ! 68 refl $ forget ! 66 refl $ forget ! 64 refl $ forget ! 62 refl $ forget ! 60 refl $ forget ! 58 refl $ forget ! 56 refl $ forget ! 0 refl $ forget ! 53 refl $ forget ! 51 refl $ forget ! 49 refl $ forget ! 47 refl $ forget ! 45 refl $ forget ! 43 refl $ forget ! 41 refl $ forget ! 39 refl $ forget ! 37 refl $ forget ! 35 refl $ forget ! 33 refl $ forget ! 31 refl $ forget ! 29 refl $ forget ! 27 refl $ forget ! 25 refl $ forget ! 23 refl $ forget ! 21 refl $ forget ! 19 refl $ forget ! 17 refl $ forget ! 15 refl $ forget ! 13 refl $ forget ! 11 refl $
