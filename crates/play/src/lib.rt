@@ -1,7 +1,5 @@
 // The player: reads a text of events line by line, and writes the lines that document 01 fixes.
-use counts::inside;
-use counts::waiting;
-use engine::step;
+use event_line::play_event;
 use grammar::Line;
 use grammar::meaning;
 use mail::Row;
@@ -13,61 +11,15 @@ use prelude::on_size;
 use prelude::one_more;
 use prelude::stop;
 use printing::Page;
-use printing::step_line;
 use printing::stop_line;
 use rig::Event;
 use rig::Table;
 ghost use mathlib.Core.Path.{_≡_};
-ghost use mathlib.Core.Option.{some};
 ghost use lib.ListN.{length};
 ghost use Rattle.rig.specs.Limits.{messageLimit};
 ghost use Rattle.prelude.specs.declared.Stage.the-variants.{Events};
 ghost use Rattle.prelude.specs.Player.{eventIn, onEvent, onLine};
 ghost use Rattle.prelude.specs.Playing.{text, AtStage, Playing, Spoke, Ended};
-
-// One event.
-fn play_event(
-    p: Player,
-    held: &mut Table,
-    heir: &mut Table,
-    inquired: &mut Table,
-    queued: &mut Table,
-    list: &mut [Row],
-    page: &mut Page,
-    e: Event,
-) -> Said
-    requires { ⌜ (length (now list) ≡ messageLimit) × AtStage Events p (now held) (now heir) (now inquired) (now queued) (now list) ⌝ }
-    ensures { λ r. ⌜ Spoke (onEvent (text p (now (held .entry)) (now (heir .entry)) (now (inquired .entry)) (now (queued .entry)) (now (list .entry))) (some e)) (text (r .player) (now (held .exit)) (now (heir .exit)) (now (inquired .exit)) (now (queued .exit)) (now (list .exit))) (now (page .entry)) (now (page .exit)) (r .printed) × Playing (r .player) (now (held .exit)) (now (heir .exit)) (now (inquired .exit)) (now (queued .exit)) (now (list .exit)) ⌝ }
-{
-    let rig = p.rig;
-    let r = step(rig, held, heir, inquired, queued, list, p.count, e);
-    let place = one_more(p.step);
-    let after = r.rig;
-    let n = step_line(
-        page,
-        place,
-        r.code,
-        inside(after),
-        waiting(after),
-        r.count as u64,
-    );
-    let read = one_more(p.line);
-    let sets = p.sets;
-    let next = Player {
-        stage: Stage::Events,
-        line: read,
-        step: place,
-        size: p.size,
-        given: p.given,
-        sets: sets,
-        rig: after,
-        count: r.count,
-    };
-    Said {
-        player: next,
-        printed: n,
-    }
-}
 
 // A line behind the sets.
 fn on_event(

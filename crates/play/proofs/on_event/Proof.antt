@@ -6,7 +6,7 @@ use Rattle.prelude.proofs.Heads.{stops}
 use borrow.Author.Needs.{needs}
 use Rattle.play.proofs.on_event.Statement.{statement}
 use Rattle.play.proofs.on_event.Tie as tie
-use Rattle.play.proofs.play_event.Reads as play-event-reads
+use Rattle.event_line.proofs.play_event.Reads as play-event-reads
 use Rattle.prelude.proofs.one_more.Reads as one-more-reads
 use Rattle.prelude.proofs.stop.Reads as stop-reads
 

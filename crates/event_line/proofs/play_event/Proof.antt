@@ -1,10 +1,10 @@
 -- `play_event`: the step, and its line.
 use mathlib.Core.Path.{_∙_}
 use denote.Ref.{now}
-use Rattle.play.proofs.Events.{ready, plays}
+use Rattle.event_line.proofs.Events.{ready, plays}
 use borrow.Author.Needs.{needs}
-use Rattle.play.proofs.play_event.Statement.{statement}
-use Rattle.play.proofs.play_event.Tie as tie
+use Rattle.event_line.proofs.play_event.Statement.{statement}
+use Rattle.event_line.proofs.play_event.Tie as tie
 use Rattle.counts.proofs.inside.Reads as inside-reads
 use Rattle.counts.proofs.waiting.Reads as waiting-reads
 use Rattle.engine.proofs.step.Reads as step-reads
