@@ -1,4 +1,5 @@
 // What one line of the player's text means. A line is its bytes before byte 10.
+use rig::Rig;
 ghost use Prim.Native.Nat.{_+_, _-_, _*_, _≤_};
 ghost use mathlib.Core.Bool.{true};
 ghost use mathlib.Core.Path.{_≡_};
@@ -78,7 +79,7 @@ fn site_bit(n: u64) -> u64
     if n < 1 {
         return 1 << 63;
     }
-    if n > 31 {
+    if n > Rig::SITES as u64 {
         return 1 << 63;
     }
     1 << (n - 1)
