@@ -125,5 +125,8 @@ form line =
     Malformed))))
 
 -- "at most 96 bytes before it"
+abbrev pub lineLimit : ℕ
+lineLimit = 96
+
 unfoldable pub meaningOf : List ℕ → Line
-meaningOf line = cond (leb (length line) 96) (form line) Malformed
+meaningOf line = cond (leb (length line) lineLimit) (form line) Malformed

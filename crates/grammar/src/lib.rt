@@ -5,6 +5,9 @@ ghost use mathlib.Core.Bool.{true};
 ghost use mathlib.Core.Path.{_≡_};
 ghost use Rattle.grammar.specs.Grammar.{isDigit, noLeadingZero, number, numbers, siteBit, setLine, one, moveLine, starts, meaningOf};
 
+// The bytes that a line may have before its byte 10.
+pub const LINE_LIMIT: usize = 96;
+
 pub enum Line {
     Sites(u64),
     Set(u64),
@@ -174,7 +177,7 @@ fn starts_with(word: &[u8], line: &[u8]) -> bool
 pub fn meaning(line: &[u8]) -> Line
     ensures { λ r. ⌜ r ≡ meaningOf (now (line .entry)) ⌝ }
 {
-    if line.len() > 96 {
+    if line.len() > LINE_LIMIT {
         return Line::Malformed;
     }
     if starts_with(b"sites=", line) {
