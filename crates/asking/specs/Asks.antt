@@ -1,5 +1,5 @@
 -- What the calls on one site's desk ask of their callers.
-use Prim.Native.Nat.{ℕ, _+_, _≤_}
+use Prim.Native.Nat.{ℕ, _+_, _*_, _≤_}
 use mathlib.Core.List.{List}
 use lib.ListN.{length}
 use Rattle.rig.specs.declared.Desk.{Desk}
@@ -10,10 +10,10 @@ use Rattle.model.specs.Desk.{heldFor}
 pub record AskFits (d : Desk) (n : ℕ) (rows : List (List ℕ)) : Type 0 where
   pub size : d .size ≤ siteLimit
   pub clock : d .site .clock ≤ numberLimit
-  pub room : n + 31 ≤ length rows
+  pub room : n + siteLimit ≤ length rows
 
 -- a leave: at most 31 sites, 1 more on a number held does not overflow, and room for 62 messages behind the first n
 pub record LeaveFits (d : Desk) (n : ℕ) (rows : List (List ℕ)) : Type 0 where
   pub size : d .size ≤ siteLimit
   pub held : (j : ℕ) → 1 ≤ j → j ≤ siteLimit → heldFor d j ≤ numberLimit
-  pub room : n + 62 ≤ length rows
+  pub room : n + 2 * siteLimit ≤ length rows

@@ -15,6 +15,9 @@ ghost use Rattle.rig.specs.declared.Event.the-variants.{Ask, Leave, Deliver};
 ghost use Rattle.accepting.specs.Whole.{stored};
 ghost use Rattle.attempts.specs.Asks.{Ready, Played};
 
+// The messages that one event may send: at most two for each site.
+const SENT_LIMIT: usize = 2 * Rig::SITES;
+
 // An inner call: site s asks.
 pub fn ask(
     rig: Rig,
@@ -45,7 +48,7 @@ pub fn ask(
             count: count,
         };
     }
-    let mut out = [[0; 5]; 64];
+    let mut out = [[0; 5]; SENT_LIMIT];
     let a = asking::ask(d, &mut out, 0);
     conclude(
         rig,
@@ -92,7 +95,7 @@ pub fn leave(
             count: count,
         };
     }
-    let mut out = [[0; 5]; 64];
+    let mut out = [[0; 5]; SENT_LIMIT];
     let a = asking::leave(d, &mut out, 0);
     conclude(
         rig,
@@ -147,7 +150,7 @@ pub fn deliver(
     };
     let d = desk(rig, held, heir, inquired, queued, b);
     let m = message(list[place]);
-    let mut out = [[0; 5]; 64];
+    let mut out = [[0; 5]; SENT_LIMIT];
     let done = delivery::deliver(d, m, &mut out, 0);
     conclude(
         rig,

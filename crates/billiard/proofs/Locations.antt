@@ -13,16 +13,16 @@ use Rattle.billiard.proofs.Parameters.{by-q-or-nine, q-bounds}
 -- a test that passes at each site of each billiard passes at any
 for-each :
     (test : ℕ → ℕ → Bool) →
-    all (test 3) 4 ≡ true →
-    all (test 5) 12 ≡ true →
-    all (test 7) 24 ≡ true →
-    all (test 9) 40 ≡ true →
+    all (test 3) (billiardSize 3) ≡ true →
+    all (test 5) (billiardSize 5) ≡ true →
+    all (test 7) (billiardSize 7) ≡ true →
+    all (test 9) (billiardSize 9) ≡ true →
     (q n : ℕ) → qComputed q ≡ true → 1 ≤ n → n ≤ billiardSize q → test q n ≡ true
 for-each test a b d e q n h x y =
     all-at (test q) (billiardSize q) n (by-q-or-nine (λ q. all (test q) (billiardSize q) ≡ true) a b d e q h) x y
 
-pub size-most : (q : ℕ) → qComputed q ≡ true → billiardSize q ≤ 40
-size-most = by-q-or-nine (λ q. billiardSize q ≤ 40) (omega arith) (omega arith) (omega arith) (omega arith)
+pub size-most : (q : ℕ) → qComputed q ≡ true → billiardSize q ≤ billiardSize 9
+size-most = by-q-or-nine (λ q. billiardSize q ≤ billiardSize 9) (omega arith) (omega arith) (omega arith) (omega arith)
 
 module _ (q n : ℕ) (h : qComputed q ≡ true) (a : 1 ≤ n) (b : n ≤ billiardSize q) where
   pub column-within : columnOf q n ≤ 2 * n

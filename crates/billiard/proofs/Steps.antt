@@ -6,18 +6,18 @@ use native.Mathlib.Omega.{arith}
 use lib.Dec.{ltb, leb}
 use borrow.Author.Tests.{lt-ltb, le-ltb, lt-leb, leb-true}
 use Rattle.basics.proofs.Basics.{and-split, all-at}
-use Rattle.billiard.specs.Billiard.{above, stepFits, pathFits, pathSite, Location}
+use Rattle.billiard.specs.Billiard.{billiardSize, above, stepFits, pathFits, pathSite, Location}
 
 module _ (q i j k x : ℕ) (h : stepFits q i j k x ≡ true) where
   abbrev long : Bool
   long = leb ((q + 1) / 2) x
 
-  both : (leb x 40 ≡ true) × (cond (above q i j) (cond (ltb k j) long (cond (leb k (q - i)) true long)) long ≡ true)
+  both : (leb x (billiardSize 9) ≡ true) × (cond (above q i j) (cond (ltb k j) long (cond (leb k (q - i)) true long)) long ≡ true)
   unfolding stepFits
-  both = and-split (leb x 40) (cond (above q i j) (cond (ltb k j) long (cond (leb k (q - i)) true long)) long) h
+  both = and-split (leb x (billiardSize 9)) (cond (above q i j) (cond (ltb k j) long (cond (leb k (q - i)) true long)) long) h
 
-  pub site-most : x ≤ 40
-  site-most = leb-true x 40 (both .0)
+  pub site-most : x ≤ billiardSize 9
+  site-most = leb-true x (billiardSize 9) (both .0)
 
   pub early-fits : i + j < q + 1 → k < j → (q + 1) / 2 ≤ x
   early-fits a b = leb-true _ _ (rw (lt-ltb _ _ a, lt-ltb _ _ b) at (both .1))

@@ -71,7 +71,7 @@ billiardEntry q n k = pathSite q (rowOf q n) (columnOf q n) (k - 1)
 -- What the code's own steps ask: that none of them goes below site 1, from a site that is no larger than N is for q = 9.
 unfoldable pub stepFits : ℕ → ℕ → ℕ → ℕ → ℕ → Bool
 stepFits q i j k x =
-    leb x 40
+    leb x (billiardSize 9)
     && cond (above q i j)
     (cond (ltb k j) (leb ((q + 1) / 2) x)
     (cond (leb k (q - i)) true

@@ -15,7 +15,7 @@ pub fn billiard_entry(q: u64, n: u64, k: u64) -> u64
 }
 
 fn column_of(q: u64, n: u64) -> u64
-    requires { ⌜ (1 ≤ q) × (n ≤ 40) ⌝ }
+    requires { ⌜ (1 ≤ q) × (n ≤ billiardSize 9) ⌝ }
     ensures { λ r. ⌜ r ≡ columnOf q n ⌝ }
 {
     let rest = 2 * n % q;

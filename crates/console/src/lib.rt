@@ -1,5 +1,6 @@
 // A text of events from a file descriptor, played to its end: the lines that document 01 fixes go to standard output.
 // The buffers are fixed: a line's first bytes wait at the front of the input until the rest of it is read.
+use grammar::LINE_LIMIT;
 use libc::STDOUT_FILENO;
 use mail::Row;
 use play::finish;
@@ -7,11 +8,13 @@ use play::line;
 use prelude::Player;
 use prelude::Stage;
 use prelude::begin;
+use printing::PAGE_LENGTH;
 use rig::Rig;
 use rig::Table;
 ghost use mathlib.Core.Path.{_≡_};
 ghost use Prim.Native.Nat.{_≤_, _<_, _+_};
 ghost use lib.ListN.{length};
+ghost use Rattle.printing.specs.Printing.{pageLength};
 ghost use Rattle.prelude.specs.Playing.{Playing};
 
 // What is left of a chunk of input: the player, and where the first line that has no end yet begins.
@@ -67,10 +70,10 @@ fn play_lines(
     filled: usize,
     output: &mut [u8],
 ) -> Rest
-    requires { ⌜ Playing p (now held) (now heir) (now inquired) (now queued) (now list) × (filled ≤ length (now input)) × (160 ≤ length (now output)) ⌝ }
+    requires { ⌜ Playing p (now held) (now heir) (now inquired) (now queued) (now list) × (filled ≤ length (now input)) × (pageLength ≤ length (now output)) ⌝ }
     ensures { λ r. ⌜ Playing (r .player) (now (held .exit)) (now (heir .exit)) (now (inquired .exit)) (now (queued .exit)) (now (list .exit)) × (r .from ≤ filled) ⌝ }
 {
-    let mut page = [0u8; 160];
+    let mut page = [0u8; PAGE_LENGTH];
     let mut q = p;
     let mut from = 0;
     let mut at = 0;
@@ -131,7 +134,7 @@ pub fn play_from(fd: i32) {
     let mut list = [[0u64; 5]; Rig::MESSAGES];
     let mut input = io::large_buffer();
     let mut output = io::large_buffer();
-    let mut page = [0u8; 160];
+    let mut page = [0u8; PAGE_LENGTH];
     let mut p = begin();
     let mut filled = 0;
     let mut turns = u64::MAX;
@@ -158,7 +161,7 @@ pub fn play_from(fd: i32) {
         if is_over(p) {
             return;
         }
-        if filled > 96 {
+        if filled > LINE_LIMIT {
             let said = line(
                 p,
                 &mut held,

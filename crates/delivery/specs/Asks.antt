@@ -15,4 +15,4 @@ pub record Fits (d : Desk) (m : Message) (n : ℕ) (rows : List (List ℕ)) : Ty
   pub sender : Listed (m .from)
   pub arbiter : m .kind ≡ REPLY → Listed (m .about)
   pub heir : m .about ≤ siteLimit
-  pub room : n + 31 ≤ length rows
+  pub room : n + siteLimit ≤ length rows

@@ -12,7 +12,7 @@ use Rattle.model.specs.Setup.{sizeListed, allName, meetsEarlier, allMeet, setup
 use Rattle.families.specs.declared.Family.{Family}
 use Rattle.families.specs.declared.Family.the-variants.{Grid, Billiard, Plane}
 use Rattle.grid.specs.Grid.{gridEntry}
-use Rattle.billiard.specs.Billiard.{qComputed, modFromOne, firstSite, nextAbove, nextBelow, nextSite, pathSite, billiardEntry}
+use Rattle.billiard.specs.Billiard.{qComputed, billiardSize, modFromOne, firstSite, nextAbove, nextBelow, nextSite, pathSite, billiardEntry}
 use Rattle.plane.specs.Plane.{firstMatrix, otherMatrix, planeEntry}
 use Rattle.families.specs.Family.{listed, computed, sizeOf, widthOf, entry, hasSite, setAt, setsUpTo, setsOf, billiardSet}
 use Rattle.families.proofs.Parameters.{by-side, by-p}
@@ -29,10 +29,10 @@ accepted (Billiard q) h = by-q (λ q. answer (Billiard q) ≡ 0) refl refl refl 
 accepted (Plane p) h = by-p (λ p. answer (Plane p) ≡ 0) refl refl refl p h
 
 -- "billiard sets {11, 15, 16, 18, 19, 21, 22, 23, 26} (site 11) and {3, 7, 11, 15, 19, 24, 29, 34, 38} (site 34), for q = 9 of the rule itself"
-pub nine-site-11 : billiardSet 9 11 ≡ setOf (λ m. any (λ k. eqb m (getD (11 ∷ 15 ∷ 16 ∷ 18 ∷ 19 ∷ 21 ∷ 22 ∷ 23 ∷ 26 ∷ []) (k - 1) 0)) 9) 40
+pub nine-site-11 : billiardSet 9 11 ≡ setOf (λ m. any (λ k. eqb m (getD (11 ∷ 15 ∷ 16 ∷ 18 ∷ 19 ∷ 21 ∷ 22 ∷ 23 ∷ 26 ∷ []) (k - 1) 0)) 9) (billiardSize 9)
 unfolding any setOf sizeOf widthOf entry hasSite setAt computed qComputed billiardSet modFromOne firstSite nextAbove nextBelow nextSite pathSite billiardEntry
 nine-site-11 = refl
 
-pub nine-site-34 : billiardSet 9 34 ≡ setOf (λ m. any (λ k. eqb m (getD (3 ∷ 7 ∷ 11 ∷ 15 ∷ 19 ∷ 24 ∷ 29 ∷ 34 ∷ 38 ∷ []) (k - 1) 0)) 9) 40
+pub nine-site-34 : billiardSet 9 34 ≡ setOf (λ m. any (λ k. eqb m (getD (3 ∷ 7 ∷ 11 ∷ 15 ∷ 19 ∷ 24 ∷ 29 ∷ 34 ∷ 38 ∷ []) (k - 1) 0)) 9) (billiardSize 9)
 unfolding any setOf sizeOf widthOf entry hasSite setAt computed qComputed billiardSet modFromOne firstSite nextAbove nextBelow nextSite pathSite billiardEntry
 nine-site-34 = refl

@@ -11,13 +11,14 @@ use Rattle.families.specs.declared.Family.{Family}
 use Rattle.families.specs.declared.Family.the-variants.{Grid, Billiard, Plane}
 use Rattle.families.specs.Family.{computed, sizeOf}
 use Rattle.families.proofs.Parameters.{side-bounds, p-bounds}
+use Rattle.billiard.specs.Billiard.{billiardSize}
 use Rattle.billiard.proofs.Locations.{size-most}
 
--- a bit below 40, as the code shifts it
-pub bit-most : (m : ℕ) → m < 40 → 2 ^ m < 2 ^ 40
+-- a bit of one of the sites of the largest family, the billiard of q = 9, as the code shifts it
+pub bit-most : (m : ℕ) → m < billiardSize 9 → 2 ^ m < 2 ^ billiardSize 9
 bit-most m h = pow-lt h
 
-pub shifted : (m : ℕ) → m < 40 → 1 * 2 ^ m % 2 ^ 64 ≡ 2 ^ m
+pub shifted : (m : ℕ) → m < billiardSize 9 → 1 * 2 ^ m % 2 ^ 64 ≡ 2 ^ m
 shifted m h = let l = bit-most m h in rw one-mul (mod-eq-of-lt (omega arith))
 
 -- a set of sites 1 to n is below 2 ^ n
@@ -29,7 +30,7 @@ set-below p (suc i) =
     by-bool (p (suc i)) (λ t. rw t (omega arith)) (λ t. rw t (omega arith))
 
 -- every family that the code has sets for
-pub sites-most : (f : Family) → computed f ≡ true → sizeOf f ≤ 40
+pub sites-most : (f : Family) → computed f ≡ true → sizeOf f ≤ billiardSize 9
 unfolding sizeOf computed
 sites-most (Grid s) h = let l = side-bounds s h in let m = mul-le-mul (l .1) (l .1) in omega arith
 sites-most (Billiard q) h = size-most q h

@@ -3,18 +3,19 @@ use Prim.Native.Nat.{ℕ}
 use mathlib.Core.Path.{_≡_}
 use mathlib.Core.Bool.{true, false}
 use borrow.Author.Tests.{eq-eqb, ne-eqb}
+use Rattle.rig.specs.Limits.{siteLimit}
 use Rattle.families.specs.declared.Family.{Family}
 use Rattle.families.specs.Family.{listed, familyCode}
 
 module _ (f : Family) (n : ℕ) where
-  pub code-13 : (n ≡ 31 → ⊥) → familyCode f n ≡ 13
+  pub code-13 : (n ≡ siteLimit → ⊥) → familyCode f n ≡ 13
   unfolding familyCode
-  code-13 h = rw (ne-eqb n 31 h)
+  code-13 h = rw (ne-eqb n siteLimit h)
 
-  pub code-12 : n ≡ 31 → listed f ≡ false → familyCode f n ≡ 12
+  pub code-12 : n ≡ siteLimit → listed f ≡ false → familyCode f n ≡ 12
   unfolding familyCode
-  code-12 h l = rw (eq-eqb n 31 h, l)
+  code-12 h l = rw (eq-eqb n siteLimit h, l)
 
-  pub code-0 : n ≡ 31 → listed f ≡ true → familyCode f n ≡ 0
+  pub code-0 : n ≡ siteLimit → listed f ≡ true → familyCode f n ≡ 0
   unfolding familyCode
-  code-0 h l = rw (eq-eqb n 31 h, l)
+  code-0 h l = rw (eq-eqb n siteLimit h, l)

@@ -8,6 +8,7 @@ ghost use mathlib.Core.Bool.{true, cond};
 ghost use Prim.Native.Nat.{_+_, _^_, _≤_, _<_};
 ghost use lib.ListN.{length};
 ghost use Rattle.rig.specs.Limits.{siteLimit};
+ghost use Rattle.billiard.specs.Billiard.{billiardSize};
 ghost use Rattle.model.specs.Setup.{setupCode};
 ghost use Rattle.families.specs.Family.{listed, computed, sizeOf, widthOf, entry, hasSite, setAt, setsOf, made, filled, billiardSet};
 
@@ -102,7 +103,7 @@ fn site_set(family: Family, n: u64) -> u64
 
 // With site m + 1 where it is a member.
 fn with_site(set: u64, m: u64, present: bool) -> u64
-    requires { ⌜ (m < 40) × (set < 2 ^ m) ⌝ }
+    requires { ⌜ (m < billiardSize 9) × (set < 2 ^ m) ⌝ }
     ensures { λ r. ⌜ r ≡ set + cond present (2 ^ m) 0 ⌝ }
 {
     if present { set + (1 << m) } else { set }

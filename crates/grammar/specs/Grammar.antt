@@ -6,6 +6,7 @@ use mathlib.Core.Option.{Option, none, some}
 use lib.Bits.{bitOr}
 use lib.Dec.{leb, ltb, eqb}
 use lib.ListN.{length, drop}
+use Rattle.rig.specs.Limits.{siteLimit}
 use Rattle.grammar.specs.declared.Line.{Line}
 use Rattle.grammar.specs.declared.Line.the-variants.{Sites, Set, Ask, Leave, Move, Malformed}
 use Rattle.grammar.specs.declared.Number.{Number}
@@ -63,10 +64,10 @@ ascends [] = true
 ascends (a ∷ []) = true
 ascends (a ∷ b ∷ ns) = ltb a b && ascends (b ∷ ns)
 
--- The set as setup reads it: site n, from 1 to 31, is bit n - 1. Any other number is no site of any rig and stands as bit 63, which setup
--- turns down with 2, since N is at most 31.
+-- The set as setup reads it: site n, from 1 to `siteLimit`, is bit n - 1. Any other number is no site of any rig and stands as bit 63, which
+-- setup turns down with 2, since N is at most `siteLimit`.
 unfoldable pub siteBit : ℕ → ℕ
-siteBit n = cond (leb 1 n && leb n 31) (2 ^ (n - 1)) (2 ^ 63)
+siteBit n = cond (leb 1 n && leb n siteLimit) (2 ^ (n - 1)) (2 ^ 63)
 
 -- the set with the numbers of a list added
 unfoldable pub withSites : ℕ → List ℕ → ℕ
@@ -124,5 +125,8 @@ form line =
     Malformed))))
 
 -- "at most 96 bytes before it"
+abbrev pub lineLimit : ℕ
+lineLimit = 96
+
 unfoldable pub meaningOf : List ℕ → Line
-meaningOf line = cond (leb (length line) 96) (form line) Malformed
+meaningOf line = cond (leb (length line) lineLimit) (form line) Malformed

@@ -1,8 +1,12 @@
 // What one line of the player's text means. A line is its bytes before byte 10.
+use rig::Rig;
 ghost use Prim.Native.Nat.{_+_, _-_, _*_, _≤_};
 ghost use mathlib.Core.Bool.{true};
 ghost use mathlib.Core.Path.{_≡_};
 ghost use Rattle.grammar.specs.Grammar.{isDigit, noLeadingZero, number, numbers, siteBit, setLine, one, moveLine, starts, meaningOf};
+
+// The bytes that a line may have before its byte 10.
+pub const LINE_LIMIT: usize = 96;
 
 pub enum Line {
     Sites(u64),
@@ -78,7 +82,7 @@ fn site_bit(n: u64) -> u64
     if n < 1 {
         return 1 << 63;
     }
-    if n > 31 {
+    if n > Rig::SITES as u64 {
         return 1 << 63;
     }
     1 << (n - 1)
@@ -173,7 +177,7 @@ fn starts_with(word: &[u8], line: &[u8]) -> bool
 pub fn meaning(line: &[u8]) -> Line
     ensures { λ r. ⌜ r ≡ meaningOf (now (line .entry)) ⌝ }
 {
-    if line.len() > 96 {
+    if line.len() > LINE_LIMIT {
         return Line::Malformed;
     }
     if starts_with(b"sites=", line) {

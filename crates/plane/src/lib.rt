@@ -1,11 +1,12 @@
 // The plane by its rule: the set of a site is a row of the matrices M1, M2 and so on.
 ghost use mathlib.Core.Path.{_≡_};
 ghost use Prim.Native.Nat.{_+_, _≤_};
+ghost use Rattle.rig.specs.Limits.{siteLimit};
 ghost use Rattle.plane.specs.Plane.{firstMatrix, generatingMatrix, otherMatrix, planeEntry};
 
 // An inner call: member k of row n, by the rule.
 pub fn rule_entry(p: u64, n: u64, k: u64) -> u64
-    requires { ⌜ (1 ≤ p) × (p ≤ 5) × (1 ≤ n) × (n ≤ 31) × (1 ≤ k) × (k ≤ p + 1) ⌝ }
+    requires { ⌜ (1 ≤ p) × (p ≤ 5) × (1 ≤ n) × (n ≤ siteLimit) × (1 ≤ k) × (k ≤ p + 1) ⌝ }
     ensures { λ r. ⌜ r ≡ planeEntry p n k ⌝ }
 {
     if n <= p + 1 {
@@ -16,7 +17,7 @@ pub fn rule_entry(p: u64, n: u64, k: u64) -> u64
 }
 
 fn first_matrix(p: u64, i: u64, j: u64) -> u64
-    requires { ⌜ (p ≤ 31) × (1 ≤ i) × (i ≤ 31) × (j ≤ 31) ⌝ }
+    requires { ⌜ (p ≤ siteLimit) × (1 ≤ i) × (i ≤ siteLimit) × (j ≤ siteLimit) ⌝ }
     ensures { λ r. ⌜ r ≡ firstMatrix p i j ⌝ }
 {
     if j == 1 {
@@ -26,14 +27,14 @@ fn first_matrix(p: u64, i: u64, j: u64) -> u64
 }
 
 fn generating_matrix(p: u64, x: u64, i: u64, j: u64) -> u64
-    requires { ⌜ (1 ≤ p) × (2 ≤ x) × (x ≤ 33) × (1 ≤ i) × (i ≤ 31) × (1 ≤ j) × (j ≤ 31) ⌝ }
+    requires { ⌜ (1 ≤ p) × (2 ≤ x) × (x ≤ siteLimit + 2) × (1 ≤ i) × (i ≤ siteLimit) × (1 ≤ j) × (j ≤ siteLimit) ⌝ }
     ensures { λ r. ⌜ r ≡ generatingMatrix p x i j ⌝ }
 {
     ((x - 2) * (j - 1) + (i - 1)) % p
 }
 
 fn other_matrix(p: u64, x: u64, i: u64, j: u64) -> u64
-    requires { ⌜ (1 ≤ p) × (p ≤ 31) × (2 ≤ x) × (x ≤ 33) × (1 ≤ i) × (i ≤ 31) × (1 ≤ j) × (j ≤ 31) ⌝ }
+    requires { ⌜ (1 ≤ p) × (p ≤ siteLimit) × (2 ≤ x) × (x ≤ siteLimit + 2) × (1 ≤ i) × (i ≤ siteLimit) × (1 ≤ j) × (j ≤ siteLimit) ⌝ }
     ensures { λ r. ⌜ r ≡ otherMatrix p x i j ⌝ }
 {
     if j == 1 {

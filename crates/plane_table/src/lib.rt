@@ -2,7 +2,7 @@
 use plane::rule_entry;
 ghost use mathlib.Core.Path.{_≡_};
 ghost use Prim.Native.Nat.{_+_, _≤_};
-ghost use Rattle.plane.specs.Plane.{planeEntry};
+ghost use Rattle.plane.specs.Plane.{planeSize, planeEntry};
 ghost use Rattle.plane_table.specs.Table.{planeTable};
 
 // The plane of p = 5, row by row: six numbers a row, six rows of the matrix M1, then five rows of each other.
@@ -197,7 +197,7 @@ const PLANE5: [u64; 186] = [
 
 // An inner call: member k of row n. Those for p = 5 are in the table; those for p = 2 and 3 follow the rule.
 pub fn plane_entry(p: u64, n: u64, k: u64) -> u64
-    requires { ⌜ (1 ≤ p) × (p ≤ 5) × (1 ≤ n) × (n ≤ 31) × (1 ≤ k) × (k ≤ p + 1) ⌝ }
+    requires { ⌜ (1 ≤ p) × (p ≤ 5) × (1 ≤ n) × (n ≤ planeSize p) × (1 ≤ k) × (k ≤ p + 1) ⌝ }
     ensures { λ r. ⌜ r ≡ planeEntry p n k ⌝ }
 {
     if p == 5 {
@@ -207,7 +207,7 @@ pub fn plane_entry(p: u64, n: u64, k: u64) -> u64
 }
 
 fn plane5_entry(n: u64, k: u64) -> u64
-    requires { ⌜ (1 ≤ n) × (n ≤ 31) × (1 ≤ k) × (k ≤ 6) ⌝ }
+    requires { ⌜ (1 ≤ n) × (n ≤ planeSize 5) × (1 ≤ k) × (k ≤ 6) ⌝ }
     ensures { λ r. ⌜ r ≡ planeEntry 5 n k ⌝ }
 {
     let table = plane5();

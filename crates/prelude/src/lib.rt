@@ -98,7 +98,7 @@ pub fn on_size(p: Player, page: &mut Page, m: Line) -> Said
     if n < 1 {
         return stop(p, page, 1, place);
     }
-    if n > 31 {
+    if n > Rig::SITES as u64 {
         return stop(p, page, 1, place);
     }
     let sets = p.sets;

@@ -52,6 +52,10 @@ stepLine step code inside waiting flying =
 unfoldable pub stopLine : ℕ → ℕ → List ℕ
 stopLine code line = (stopWord ++ decimal code) ++ ((lineWord ++ decimal line) ++ (10 ∷ []))
 
+-- the bytes of a page
+abbrev pub pageLength : ℕ
+pageLength = 160
+
 -- the line stands at the start of the page, r bytes long, and the bytes behind it are as they came
 pub record Printed (line page after : List ℕ) (r : ℕ) : Type 0 where
   pub count : r ≡ length line

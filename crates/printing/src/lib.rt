@@ -7,7 +7,9 @@ ghost use Rattle.printing.specs.Printing.{decimal, stepLine, stopLine, P
 ghost use Rattle.printing.specs.Wrote.{Wrote};
 
 // A page holds the longest line: with five numbers of 20 digits it has 137 bytes.
-pub type Page = [u8; 160];
+pub const PAGE_LENGTH: usize = 160;
+
+pub type Page = [u8; PAGE_LENGTH];
 
 // The last digit of n.
 fn last_digit(n: u64) -> u8

@@ -113,7 +113,7 @@ pub fn on_inquire(d: Desk, j: u64, n: u64, out: &mut [Row], count: usize) -> Act
 
 // An inner call: a fail.
 pub fn on_fail(d: Desk, out: &mut [Row], count: usize) -> Acted
-    requires { ⌜ (d .size ≤ siteLimit) × (count + 31 ≤ length (now out)) ⌝ }
+    requires { ⌜ (d .size ≤ siteLimit) × (count + siteLimit ≤ length (now out)) ⌝ }
     ensures { λ r. ⌜ Did (onFail d) count (now (out .entry)) (now (out .exit)) r ⌝ }
 {
     let s = d.site;

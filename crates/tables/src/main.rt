@@ -38,7 +38,7 @@ fn print_family(name: &[u8], parameter: u64, family: Family) {
     if made.code == 0 {
         print_sets(name, parameter, made.size, &sets);
     } else {
-        print_code(name, parameter, 31, made.code);
+        print_code(name, parameter, Rig::SITES as u64, made.code);
     }
 }
 

@@ -40,7 +40,7 @@ fn yield_if(d: Desk, j: u64, out: &mut [Row], count: usize) -> Acted
 
 // An inner call: every held member with a remembered inquire is yielded, ascending.
 pub fn yield_members(d: Desk, out: &mut [Row], count: usize) -> Acted
-    requires { ⌜ (d .size ≤ siteLimit) × (count + 31 ≤ length (now out)) ⌝ }
+    requires { ⌜ (d .size ≤ siteLimit) × (count + siteLimit ≤ length (now out)) ⌝ }
     ensures { λ r. ⌜ Did (yieldedUpTo d (d .size)) count (now (out .entry)) (now (out .exit)) r ⌝ }
 {
     let mut a = Acted {

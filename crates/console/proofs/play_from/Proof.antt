@@ -1,9 +1,12 @@
--- `play_from`: the player and its tables fit each other at every turn, and a line begun is at most 96 bytes.
+-- `play_from`: the player and its tables fit each other at every turn, and a line begun is at most `lineLimit` bytes.
 use Prim.Native.Nat.{_≤_, _-_}
 use mathlib.Core.Path.{_≡_, refl, sym}
 use native.Mathlib.Omega.{arith}
 use lib.ListN.{length}
 use lib.Seq.{length-take-le}
+use Rattle.rig.specs.Limits.{messageLimit}
+use Rattle.grammar.specs.Grammar.{lineLimit}
+use Rattle.printing.specs.Printing.{pageLength}
 use Rattle.printing.proofs.Lines.{printed-part}
 use Rattle.prelude.specs.Player.{start}
 use Rattle.console.proofs.Begin.{playing}
@@ -24,7 +27,7 @@ use Rattle.rig.proofs.Rig.blank.Reads as blank-reads
 
 abbrev Inv-loop : tie.InvT-loop
 Inv-loop fd held₀ heir₀ inquired₀ queued₀ list₀ input₀ output₀ page₀ p₀ filled₀ turns₀ held heir inquired queued list input output page p filled turns =
-    Playing p held heir inquired queued list × (filled ≤ 96) × (length list ≡ 1_024) × (length input ≡ 65_536) × (length output ≡ 65_536) × (length page ≡ 160)
+    Playing p held heir inquired queued list × (filled ≤ lineLimit) × (length list ≡ messageLimit) × (length input ≡ 65_536) × (length output ≡ 65_536) × (length page ≡ pageLength)
 
 abbrev μ-loop : tie.MeasureT-loop
 μ-loop fd held₀ heir₀ inquired₀ queued₀ list₀ input₀ output₀ page₀ p₀ filled₀ turns₀ held heir inquired queued list input output page p filled turns =

@@ -4,6 +4,7 @@ use mathlib.Core.Path.{_≡_, refl, sym, _∙_}
 use native.Mathlib.Omega.{arith}
 use lib.ListN.{length}
 use lib.Seq.{length-take-le}
+use Rattle.printing.specs.Printing.{pageLength}
 use Rattle.printing.proofs.Lines.{printed-part}
 use Rattle.prelude.specs.Playing.{Playing}
 use borrow.Author.Needs.{needs}
@@ -16,7 +17,7 @@ use Rattle.console.proofs.put_out.Reads as put-out-reads
 
 abbrev Inv-loop : tie.InvT-loop
 Inv-loop held₀ heir₀ inquired₀ queued₀ list₀ input filled output₀ page₀ q₀ from₀ at₀ held heir inquired queued list output page q from at =
-    Playing q held heir inquired queued list × (from ≤ filled) × (at ≤ length output) × (length output ≡ length output₀) × (length list ≡ length list₀) × (length page ≡ 160)
+    Playing q held heir inquired queued list × (from ≤ filled) × (at ≤ length output) × (length output ≡ length output₀) × (length list ≡ length list₀) × (length page ≡ pageLength)
 
 abbrev μ-loop : tie.MeasureT-loop
 μ-loop held₀ heir₀ inquired₀ queued₀ list₀ input filled output₀ page₀ q₀ from₀ at₀ held heir inquired queued list output page q from at =

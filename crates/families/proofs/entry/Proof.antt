@@ -1,5 +1,4 @@
 -- `families::entry` meets its contract: one arm for each family.
-use Prim.Native.Nat.{_+_, _≤_}
 use native.Mathlib.Nat.{mul-le-mul}
 use native.Mathlib.Omega.{arith}
 use borrow.Author.Needs.{needs}
@@ -34,9 +33,7 @@ unfolding sizeOf widthOf
 plane-entry-requires c κs =
     let p = rw (c .before .family3 .given .1) at (c .before .before .before .pre) in
     let l = p-bounds _ (p .0) in
-    let k : c .before .family3 .given .0 .0 + 1 ≤ 6 = omega arith in
-    let m = mul-le-mul (l .1) k in
-    (omega arith, omega arith, omega arith, omega arith, omega arith, omega arith)
+    (omega arith, omega arith, p .1, p .2, p .3, p .4)
 
 returns : tie.Need-returns
 unfolding entry

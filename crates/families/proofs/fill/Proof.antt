@@ -7,16 +7,17 @@ use native.Mathlib.Omega.{arith}
 use lib.Seq.{take-all, take-suc-set}
 use lib.ListN.{length, take, length-set}
 use borrow.Author.Needs.{needs}
+use Rattle.rig.specs.Limits.{siteLimit}
 use Rattle.families.specs.Family.{setsUpTo}
 use Rattle.families.proofs.Parameters.{listed-computed}
 use Rattle.families.proofs.fill.Statement.{statement}
 use Rattle.families.proofs.fill.Tie as tie
 
 abbrev Inv-loop : tie.InvT-loop
-Inv-loop family sets₀ i₀ sets i = (i ≤ 31) × (length sets ≡ 31) × (take i sets ≡ setsUpTo family i)
+Inv-loop family sets₀ i₀ sets i = (i ≤ siteLimit) × (length sets ≡ siteLimit) × (take i sets ≡ setsUpTo family i)
 
 abbrev μ-loop : tie.MeasureT-loop
-μ-loop family sets₀ i₀ sets i = 31 - i
+μ-loop family sets₀ i₀ sets i = siteLimit - i
 
 loop-holds : tie.Need-loop-holds Inv-loop μ-loop
 unfolding setsUpTo
@@ -53,7 +54,7 @@ same-length c = c .before .loop .inv .1 ∙ sym (c .before .before .before .pre 
 returns : tie.Need-returns Inv-loop μ-loop
 returns c =
     let w = c .before .loop in
-    sym (take-all 31 (w .sets) (omega arith)) ∙ (rw (le-antisymm (w .inv .0) (c .loop-test .left)) at (w .inv .2))
+    sym (take-all siteLimit (w .sets) (omega arith)) ∙ (rw (le-antisymm (w .inv .0) (c .loop-test .left)) at (w .inv .2))
 
 pub fill-spec : {M : Type 1} → statement M
 fill-spec =

@@ -6,7 +6,7 @@ use borrow.Author.Tests.{le-leb, lt-leb}
 use denote.Ref.{now}
 use native.Mathlib.Omega.{arith}
 use lib.ListN.{length}
-use Rattle.grammar.specs.Grammar.{form, meaningOf}
+use Rattle.grammar.specs.Grammar.{form, lineLimit, meaningOf}
 use Rattle.grammar.proofs.Words.{starts-length, behind, notSites, notSet, notAsk, notLeave}
 use Rattle.grammar.proofs.meaning.Statement.{statement}
 use Rattle.grammar.proofs.meaning.Tie as tie
@@ -14,7 +14,7 @@ use Rattle.grammar.proofs.meaning.Tie as tie
 -- what the meaning is where the tests so far failed
 short : (c : tie.Else1) → meaningOf (now (c .before .before .args .line)) ≡ form (now (c .before .before .args .line))
 unfolding meaningOf
-short c = rw (le-leb (length (now (c .before .before .args .line))) 96 (omega arith))
+short c = rw (le-leb (length (now (c .before .before .args .line))) lineLimit (omega arith))
 
 not-sites : (c : tie.Else2) → meaningOf (now (c .before .before .before .before .before .args .line)) ≡ notSites (now (c .before .before .before .before .before .args .line))
 unfolding form
@@ -50,7 +50,7 @@ move-long c = starts-length _ _ (sym (c .before .starts-with5 .ensures) ∙ c .i
 
 returns : tie.Need-returns
 unfolding meaningOf
-returns c = rw (lt-leb (length (now (c .before .before .args .line))) 96 (omega arith))
+returns c = rw (lt-leb (length (now (c .before .before .args .line))) lineLimit (omega arith))
 
 slice-aggregate-starts-with : tie.Need-slice-aggregate-starts-with
 slice-aggregate-starts-with c = search needs
