@@ -1,4 +1,5 @@
--- Every state of a run is well shaped, its numbers are small, and no reply, yield or plain release under way is stray.
+-- Every state of a run is well shaped, no event of it is refused with 10, or with 13 where its list began with 1,024 entries, its numbers
+-- are small, and no reply, yield or plain release under way is stray.
 use Prim.Native.Nat.{ℕ, suc, _+_, _*_, _≤_, _<_}
 use mathlib.Core.Path.{_≡_, refl, sym, _∙_, ap}
 use mathlib.Core.Logic.{_≢_, ⊎-elim}
@@ -32,13 +33,15 @@ use Rattle.model.specs.Desk.{Effect}
 use Rattle.model.specs.Event.{actor, sitesNamed, Attempt, refused, possible, allNumbers, numbersFit, limitCode, Stored, underWay, settled, judged, event}
 use Rattle.model.specs.Arbiter.{fromHolder, isEarly}
 use Rattle.model.specs.Site.{takes}
-use Rattle.model.specs.Always.{Always, NineByCount, numbersUpTo, NumbersWithin, NumbersSmall, AlwaysShaped, fitsRule, allFit, NeverStray}
+use Rattle.model.specs.Run.{fresh, run}
+use Rattle.model.specs.Always.{Always, NineByCount, numbersUpTo, NumbersWithin, NumbersSmall, AlwaysShaped, AlwaysLong, fitsRule, allFit, NeverStray}
 use Rattle.model.proofs.Setup.{Accepted, accepts, accepted-code}
 use Rattle.model.proofs.Machine.{modeNumber, sentOf, rigOf, rests-same, waits-same}
 use Rattle.model.proofs.Lawful.{systemFrom, lawful, kept-past, kept-accepted}
 use Rattle.model.proofs.Plain.{wireOf, AllPlain, both}
 use Rattle.model.proofs.Tables.{at-put-same}
 use Rattle.model.proofs.Reached.{Reached, Move, Moves, attempt-moves, moved}
+use Rattle.model.proofs.Codes.{never-ten, never-thirteen, run-long}
 use Rattle.model.proofs.Theorem.{invariant, run-of}
 
 -- the number of a message is the machine's
@@ -255,6 +258,9 @@ module _ (n : ℕ) (l : List ℕ) (a : Accepted n l) (past : (k : ℕ) → n < k
     messages-shaped (underWay s) (r .plain) every-fits (below .underWay),
   )
 
+  shaped-and-played : (wellShaped t (underWay s) ≡ true) × ((e : Event) → event s e .code ≢ 10)
+  shaped-and-played = (well-shaped, never-ten s (r .few) well-shaped)
+
   -- No reply, yield or plain release is stray
 
   wire-fits : (j : ℕ) (m : M.Message) → FitsTables (settingOf y j) (viewOf state j) m → fitsRule t (wireOf j m) ≡ true
@@ -331,7 +337,11 @@ always P h n sets list es e =
 
 pub always-shaped : AlwaysShaped
 unfolding AlwaysShaped
-always-shaped = always _ well-shaped
+always-shaped = always _ shaped-and-played
+
+pub always-long : AlwaysLong
+unfolding AlwaysLong fresh
+always-long n sets list es long e = never-thirteen (run (fresh n sets list) es) (run-long es (fresh n sets list) long) e
 
 pub numbers-small : NumbersSmall
 unfolding NumbersSmall
