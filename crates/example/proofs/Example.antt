@@ -7,7 +7,7 @@ use Rattle.rig.specs.declared.Event.{Event}
 use Rattle.rig.specs.declared.Event.the-variants.{Ask, Leave, Deliver}
 use Rattle.rig.specs.Limits.{messageLimit}
 use Rattle.model.specs.Tables.{at, put, cell}
-use Rattle.basics.specs.Helpers.{all, any, count, first, withoutFirst}
+use Rattle.basics.specs.Helpers.{all, any, count, lowest, first, withoutFirst}
 use Rattle.model.specs.Sets.{member, meet, names}
 use Rattle.model.specs.Setup.{sizeListed, allName, meetsEarlier, allMeet, setupCode, keptSets, freshRig}
 use Rattle.model.specs.State.{freshTables, deskOf, withDesk}
@@ -18,7 +18,7 @@ use Rattle.model.specs.Arbiter.{headOf, nextHeir, granted, grantedHead, clockRa
 use Rattle.model.specs.Site.{failedSet, yielded, allHeld, entered, taken, enteredOrYielded, takes, onReply, remembered, yieldedOrRemembered, onInquire, mustYield, yieldedIf, yieldedUpTo, onFail, onTransfer}
 use Rattle.model.specs.Deliver.{between, delivered}
 use Rattle.model.specs.Shape.{isNumber, isGiven, setsShaped, acceptedShaped, modeShaped, siteBlank, siteShaped, sitesShaped, holderShaped, arbiterShaped, arbitersShaped, entryShaped, heldShaped, inquiredShaped, heirShaped, queuedShaped, everywhere, numberShaped, aboutShaped, messageShaped, messagesShaped, tablesShaped, wellShaped}
-use Rattle.model.specs.Event.{actor, sitesNamed, takenOff, attempt, allNumbers, numbersFit, limitCode, blankMessage, padded, accepted, settled, judged, event}
+use Rattle.model.specs.Event.{actor, sitesNamed, takenOff, attempt, numbersUpTo, numbersFit, limitCode, blankMessage, padded, accepted, settled, judged, event}
 use Rattle.model.specs.Run.{fresh, waitingCount}
 use Rattle.model.specs.Printed.{Line, insideUpTo, lineOf, printed}
 
@@ -63,5 +63,5 @@ pub printedExample :
     ∷ line 12 0 0 0 0
     ∷ line 13 7 0 0 0
     ∷ []
-unfolding at put cell all any count member meet names sizeListed allName meetsEarlier allMeet setupCode keptSets freshRig freshTables deskOf withDesk comesBefore headWith head requests asked handOn handOns left headOf nextHeir granted grantedHead clockRaised failFormer inquireOrFail answers queuedUp onRequest inquireIfBefore headNamed heirTakesOver holderReleases fromHolder isEarly earlyRelease onRelease onYield failedSet yielded allHeld entered taken enteredOrYielded takes onReply remembered yieldedOrRemembered onInquire mustYield yieldedIf yieldedUpTo onFail onTransfer between first withoutFirst delivered isNumber isGiven setsShaped acceptedShaped modeShaped siteBlank siteShaped sitesShaped holderShaped arbiterShaped arbitersShaped entryShaped heldShaped inquiredShaped heirShaped queuedShaped everywhere numberShaped aboutShaped messageShaped messagesShaped tablesShaped wellShaped actor sitesNamed takenOff attempt allNumbers numbersFit limitCode padded accepted settled judged event fresh waitingCount insideUpTo lineOf printed
+unfolding at put cell all any count member meet names sizeListed allName meetsEarlier allMeet setupCode keptSets freshRig freshTables deskOf withDesk comesBefore headWith head requests asked handOn handOns left headOf nextHeir granted grantedHead clockRaised failFormer inquireOrFail answers queuedUp onRequest inquireIfBefore headNamed heirTakesOver holderReleases fromHolder isEarly earlyRelease onRelease onYield failedSet yielded allHeld entered taken enteredOrYielded takes onReply remembered yieldedOrRemembered onInquire mustYield yieldedIf yieldedUpTo onFail onTransfer between first withoutFirst delivered isNumber isGiven setsShaped acceptedShaped modeShaped siteBlank siteShaped sitesShaped holderShaped arbiterShaped arbitersShaped entryShaped heldShaped inquiredShaped heirShaped queuedShaped everywhere numberShaped aboutShaped messageShaped messagesShaped tablesShaped wellShaped actor sitesNamed takenOff attempt numbersUpTo numbersFit limitCode padded accepted settled judged event fresh waitingCount lowest insideUpTo lineOf printed
 printedExample = refl

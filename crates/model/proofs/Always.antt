@@ -30,11 +30,11 @@ use Rattle.model.specs.Setup.{keptSets, restingSite, freeArbiter}
 use Rattle.model.specs.State.{Tables, seqIn, sizeOf, inRange, hasMember, siteOf, modeOf, arbiterOf, heldOf, heirOf, queuedOf, deskOf, withDesk}
 use Rattle.model.specs.Shape.{isNumber, isGiven, setsShaped, acceptedShaped, modeShaped, siteBlank, siteShaped, sitesShaped, holderShaped, arbiterShaped, arbitersShaped, entryShaped, heldShaped, inquiredShaped, heirShaped, queuedShaped, everywhere, numberShaped, aboutShaped, messageShaped, messagesShaped, tablesShaped, wellShaped}
 use Rattle.model.specs.Desk.{Effect}
-use Rattle.model.specs.Event.{actor, sitesNamed, Attempt, refused, possible, allNumbers, numbersFit, limitCode, Stored, underWay, settled, judged, event}
+use Rattle.model.specs.Event.{actor, sitesNamed, Attempt, refused, possible, numbersUpTo, numbersFit, limitCode, Stored, underWay, settled, judged, event}
 use Rattle.model.specs.Arbiter.{fromHolder, isEarly}
 use Rattle.model.specs.Site.{takes}
-use Rattle.model.specs.Run.{fresh, run}
-use Rattle.model.specs.Always.{Always, NineByCount, numbersUpTo, NumbersWithin, NumbersSmall, AlwaysShaped, AlwaysLong, fitsRule, allFit, NeverStray}
+use Rattle.model.specs.Run.{fresh, run, Always}
+use Rattle.model.specs.Always.{NineByCount, NumbersWithin, NumbersSmall, AlwaysShaped, AlwaysLong, fitsRule, allFit, NeverStray}
 use Rattle.model.proofs.Setup.{Accepted, accepts, accepted-code}
 use Rattle.model.proofs.Machine.{modeNumber, sentOf, rigOf, rests-same, waits-same}
 use Rattle.model.proofs.Lawful.{systemFrom, lawful, kept-past, kept-accepted}
@@ -84,12 +84,12 @@ in-range : (t : Tables) (k : ℕ) → 1 ≤ k → k ≤ sizeOf t → inRange t k
 in-range t k a b = rw (le-leb 1 k a, le-leb k (sizeOf t) b)
 
 -- the last messages of a list
-last-numbers : (b : ℕ) (xs ys : List Message) → b ≤ numberLimit → numbersUpTo b (xs ++ ys) ≡ true → allNumbers ys ≡ true
-unfolding numbersUpTo allNumbers
+last-numbers : (b : ℕ) (xs ys : List Message) → b ≤ numberLimit → numbersUpTo b (xs ++ ys) ≡ true → numbersUpTo numberLimit ys ≡ true
+unfolding numbersUpTo
 last-numbers b [] [] l h = refl
 last-numbers b [] (m ∷ ms) l h =
     let w = and-split (leb (m .number) b) _ h in
-    rw (is-number (m .number) (omega (arith, leb-true _ b (w .0))), last-numbers b [] ms l (w .1))
+    rw (le-leb (m .number) numberLimit (omega (arith, leb-true _ b (w .0))), last-numbers b [] ms l (w .1))
 last-numbers b (x ∷ xs) ys l h = last-numbers b xs ys l (and-split (leb (x .number) b) _ h .1)
 
 module _ (n : ℕ) (l : List ℕ) (a : Accepted n l) (past : (k : ℕ) → n < k → at 0 l k ≡ 0) (s : Stored) (r : Reached n l s) where
