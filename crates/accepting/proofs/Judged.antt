@@ -11,7 +11,7 @@ use borrow.Author.Tests.{ltb-true, ltb-false}
 use Rattle.basics.proofs.Basics.{by-bool}
 use Rattle.rig.specs.declared.Rig.{Rig}
 use Rattle.rig.specs.Limits.{messageLimit, eventLimit}
-use Rattle.model.specs.State.{Tables, withDesk}
+use Rattle.model.specs.State.{Tables, tables, withDesk}
 use Rattle.model.specs.Event as M
 use Rattle.model.proofs.Reached.{room}
 use Rattle.mail.specs.declared.Acted.{Acted}
@@ -19,7 +19,6 @@ use Rattle.mail.specs.Rows.{messageOf}
 use Rattle.mail.specs.Places.{without, cleared}
 use Rattle.mail.proofs.Rows.{cleared-padded}
 use Rattle.limits.specs.Limit.{limitOf}
-use Rattle.desks.specs.Whole.{tables}
 use Rattle.accepting.specs.declared.Answer.{Answer}
 use Rattle.accepting.specs.Whole.{stored, answered, tidied, effectOf, staying}
 use Rattle.accepting.proofs.Blank.{without-short, without-all}

@@ -7,12 +7,12 @@ use lib.Dec.{eqb}
 use lib.ListN.{length, take}
 use Rattle.rig.specs.declared.Rig.{Rig}
 use Rattle.rig.specs.declared.Message.{Message}
+use Rattle.model.specs.State.{tables}
 use Rattle.model.specs.Desk.{Effect, effect}
 use Rattle.model.specs.Event as M
 use Rattle.mail.specs.declared.Acted.{Acted}
 use Rattle.mail.specs.Rows.{messageOf}
 use Rattle.mail.specs.Places.{without, cleared}
-use Rattle.desks.specs.Whole.{tables}
 use Rattle.accepting.specs.declared.Answer.{Answer}
 
 -- the state of model/specs/Event: a rig with its four tables, the rows of the list, and how many are under way

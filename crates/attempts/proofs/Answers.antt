@@ -94,7 +94,7 @@ module _ (r : Answer) (rows : List (List ℕ)) where
 
 module _ (s : M.Stored) (ready : Ready s) where
   -- neither 13 nor 10
-  judged-next : (e : Event) → M.event s e ≡ cond (not (M.sitesNamed (s .tables) e)) (M.answer 4 s) (M.judged s (M.actor e) (M.attempt (s .tables) (M.underWay s) e))
+  pub judged-next : (e : Event) → M.event s e ≡ cond (not (M.sitesNamed (s .tables) e)) (M.answer 4 s) (M.judged s (M.actor e) (M.attempt (s .tables) (M.underWay s) e))
   unfolding M.event
   judged-next e = rw (eq-eqb (length (s .list)) messageLimit (ready .long), le-leb (s .count) messageLimit (ready .few), ready .shaped)
 

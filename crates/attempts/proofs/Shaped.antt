@@ -12,8 +12,8 @@ use Rattle.basics.proofs.Basics.{by-bool, and-split, or-either, all-at, clash}
 use Rattle.rig.specs.declared.Message.{Message}
 use Rattle.rig.specs.Limits.{siteLimit, numberLimit, Listed}
 use Rattle.rig.specs.Messages.{REPLY}
-use Rattle.model.specs.State.{Tables, sizeOf, inRange, siteOf, modeOf, arbiterOf, heldOf}
-use Rattle.model.specs.Shape.{isNumber, modeShaped, siteShaped, sitesShaped, arbiterShaped, arbitersShaped, setsShaped, acceptedShaped, entryShaped, heldShaped, everywhere, messageShaped, aboutShaped, numberShaped, tied, tablesShaped, wellShaped}
+use Rattle.model.specs.State.{Tables, sizeOf, inRange, hasMember, siteOf, modeOf, arbiterOf, heldOf}
+use Rattle.model.specs.Shape.{isNumber, modeShaped, siteShaped, sitesShaped, arbiterShaped, arbitersShaped, setsShaped, acceptedShaped, entryShaped, heldShaped, everywhere, messageShaped, aboutShaped, numberShaped, tablesShaped, wellShaped}
 use Rattle.model.proofs.Shaped.{shaped, ties}
 use Rattle.model.proofs.Delivered.{by-kind, within}
 
@@ -59,7 +59,7 @@ module _ (t : Tables) (ms : List Message) (w : wellShaped t ms ≡ true) where
       let r = listed k e in
       let a = all-at (λ i. all (heldShaped t i) siteLimit) siteLimit k (arbiters .1) (r .low) (r .high) in
       let b = all-at (heldShaped t k) siteLimit j a low high in
-      by-bool (tied t k j)
+      by-bool (hasMember t k j)
       (λ c. number _ (rw c at b))
       (λ c. let z = eqb-true (heldOf t k j) 0 (rw c at b) in omega arith)
 
@@ -76,7 +76,7 @@ module _ (t : Tables) (ms : List Message) (w : wellShaped t ms ≡ true) where
     sender = listed (m .from) (ends .0)
 
     -- a site that is tied to an arbiter, and the arbiter
-    tied-listed : (k j : ℕ) → tied t k j ≡ true → Listed k × Listed j
+    tied-listed : (k j : ℕ) → hasMember t k j ≡ true → Listed k × Listed j
     tied-listed k j h =
         let s = ties t ms (shaped t ms w) k j h in
         let n = size in (record { low = s .0; high = omega (arith, s .1) }, record { low = s .2; high = omega (arith, s .3) })
@@ -96,9 +96,9 @@ module _ (t : Tables) (ms : List Message) (w : wellShaped t ms ≡ true) where
         (λ k. zero-about (and-split (eqb (m .about) 0) _ (rw k at a) .0))
         (λ k. tied-listed (m .to) (m .about) (rw k at a) .1 .high)
         (λ k. ⊎-elim zero-about (λ h. tied-listed (m .about) (m .to) h .0 .high)
-        (or-either (eqb (m .about) 0) (tied t (m .about) (m .to)) (and-split (tied t (m .from) (m .to)) _ (rw k at a) .1)))
+        (or-either (eqb (m .about) 0) (hasMember t (m .about) (m .to)) (and-split (hasMember t (m .from) (m .to)) _ (rw k at a) .1)))
         (λ k. zero-about (and-split (eqb (m .about) 0) _ (rw k at a) .0))
         (λ k. zero-about (and-split (eqb (m .about) 0) _ (rw k at a) .0))
         (λ k. zero-about (and-split (eqb (m .about) 0) _ (rw k at a) .0))
-        (λ k. tied-listed (m .about) (m .from) (and-split (tied t (m .to) (m .from)) _ (rw k at a) .1) .0 .high)
+        (λ k. tied-listed (m .about) (m .from) (and-split (hasMember t (m .to) (m .from)) _ (rw k at a) .1) .0 .high)
         (λ n1 n2 n3 n4 n5 n6 n7. clash false (rw (ne-eqb _ _ n1, ne-eqb _ _ n2, ne-eqb _ _ n3, ne-eqb _ _ n4, ne-eqb _ _ n5, ne-eqb _ _ n6, ne-eqb _ _ n7) at a) refl)

@@ -12,8 +12,9 @@ use ranges::is_site;
 use rig::Rig;
 use rig::Table;
 ghost use Rattle.rig.specs.declared.Event.the-variants.{Ask, Leave, Deliver};
-ghost use Rattle.accepting.specs.Whole.{stored};
+ghost use Rattle.accepting.specs.Whole.{stored, answered, tidied};
 ghost use Rattle.attempts.specs.Asks.{Ready, Played};
+ghost use Rattle.attempts.specs.AtPlace.{ByPlace};
 
 // The messages that one event may send: at most two for each site.
 const SENT_LIMIT: usize = 2 * Rig::SITES;
@@ -112,7 +113,7 @@ pub fn leave(
     )
 }
 
-// An inner call: the first message from a to b is delivered.
+// An inner call: the first message from a to b is delivered, by the case of `Found`.
 pub fn deliver(
     rig: Rig,
     held: &mut Table,
@@ -125,7 +126,7 @@ pub fn deliver(
     b: u64,
 ) -> Answer
     requires { ⌜ Ready (stored rig (now held) (now heir) (now inquired) (now queued) (now list) count) ⌝ }
-    ensures { λ r. ⌜ Played (stored rig (now (held .entry)) (now (heir .entry)) (now (inquired .entry)) (now (queued .entry)) (now (list .entry)) count) (Deliver a b) (now (list .entry)) r (now (held .exit)) (now (heir .exit)) (now (inquired .exit)) (now (queued .exit)) (now (list .exit)) ⌝ }
+    ensures { λ r. ⌜ Played (stored rig (now (held .entry)) (now (heir .entry)) (now (inquired .entry)) (now (queued .entry)) (now (list .entry)) count) (Deliver a b) (now (list .entry)) r (now (held .exit)) (now (heir .exit)) (now (inquired .exit)) (now (queued .exit)) (now (list .exit)) × ByPlace (stored rig (now (held .entry)) (now (heir .entry)) (now (inquired .entry)) (now (queued .entry)) (now (list .entry)) count) a b (now (list .entry)) (answered r (now (held .exit)) (now (heir .exit)) (now (inquired .exit)) (now (queued .exit)) (tidied r (now (list .exit)))) ⌝ }
 {
     if !is_site(rig.size, a) {
         return Answer {

@@ -22,6 +22,13 @@ unfoldable pub count : (ℕ → Bool) → ℕ → ℕ
 count p zero = 0
 count p (suc n) = cond (p (suc n)) (suc (count p n)) (count p n)
 
+-- the lowest of 1 to n that passes, 0 none
+unfoldable pub lowest : (ℕ → Bool) → ℕ → ℕ
+lowest p zero = 0
+lowest p (suc n) =
+    let k = lowest p n in
+    cond (eqb k 0) (cond (p (suc n)) (suc n) 0) k
+
 module _ {A : Type 0} where
   -- how many entries of a list pass
   unfoldable pub tally : (A → Bool) → List A → ℕ

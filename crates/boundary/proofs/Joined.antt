@@ -16,7 +16,7 @@ use Rattle.rig.specs.Limits.{messageLimit}
 use Rattle.model.specs.Event as M
 use Rattle.mail.specs.Rows.{rowOf, messageOf}
 use Rattle.mail.specs.Places.{zeroRow}
-use Rattle.desks.specs.Whole.{tables}
+use Rattle.model.specs.State.{tables}
 use Rattle.accepting.specs.declared.Answer.{Answer}
 use Rattle.accepting.specs.Whole.{stored, answered}
 use Rattle.message_list.specs.First.{firstIn}

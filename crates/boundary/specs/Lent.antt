@@ -4,7 +4,7 @@ use mathlib.Core.List.{List}
 use Rattle.rig.specs.declared.Rig.{Rig}
 use Rattle.rig.specs.declared.Message.{Message}
 use Rattle.model.specs.Event as M
-use Rattle.desks.specs.Whole.{tables}
+use Rattle.model.specs.State.{tables}
 use Rattle.accepting.specs.declared.Answer.{Answer}
 
 -- the state of model/specs/Event: a rig with its four tables, the lent list, and how many of its messages are under way

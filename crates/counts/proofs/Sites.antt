@@ -10,7 +10,7 @@ use borrow.Author.Tests.{eqb-true, eqb-false, ne-eqb, leb-true, leb-false}
 use Rattle.rig.specs.Limits.{siteLimit}
 use Rattle.rig.specs.declared.Site.{Site}
 use Rattle.rig.specs.declared.Mode.the-variants.{Rest}
-use Rattle.basics.specs.Helpers.{count}
+use Rattle.basics.specs.Helpers.{count, lowest}
 use Rattle.basics.proofs.Basics.{by-bool}
 use Rattle.model.specs.Setup.{restingSite}
 use Rattle.model.specs.State.{Tables, modeOf, isInside, isWaiting}
@@ -22,7 +22,7 @@ use Rattle.members.specs.Ties.{tablesOf}
 -- For callers: the counts read nothing of the four other tables.
 
 pub inside-same : (t : Tables) (n : ℕ) → insideUpTo (tablesOf (t .rig)) n ≡ insideUpTo t n
-unfolding insideUpTo
+unfolding insideUpTo lowest
 inside-same t zero = refl
 inside-same t (suc n) = rw (inside-same t n)
 
@@ -33,12 +33,12 @@ waiting-same t = refl
 module _ (t : Tables) where
   -- one site more, that is not inside
   pub inside-more : (i : ℕ) → insideUpTo t i ≡ 0 → isInside (modeOf t (suc i)) ≡ false → insideUpTo t (i + 1) ≡ 0
-  unfolding insideUpTo
+  unfolding insideUpTo lowest
   inside-more i e f = rw (add-one, e, f)
 
   -- the one after those that are not inside
   pub inside-found : (i n : ℕ) → insideUpTo t i ≡ 0 → isInside (modeOf t (suc i)) ≡ true → suc i ≤ n → insideUpTo t n ≡ suc i
-  unfolding insideUpTo
+  unfolding insideUpTo lowest
   inside-found i zero e f h = absurd (omega arith)
   inside-found i (suc n) e f h =
       by-bool (eqb i n)
@@ -67,7 +67,7 @@ module _ (t : Tables) (long : length (t .rig .sites) ≡ siteLimit) where
   mode-past n h = ap (λ (s : Site). s .mode) (at-past restingSite (t .rig .sites) (suc n) (omega arith))
 
   pub inside-stored : (n : ℕ) → insideUpTo t (min n siteLimit) ≡ insideUpTo t n
-  unfolding insideUpTo
+  unfolding insideUpTo lowest
   inside-stored = stays (insideUpTo t) siteLimit (λ n h. by-bool (eqb (insideUpTo t n) 0) (λ q. rw (q, mode-past n h) (sym (eqb-true _ 0 q))) (λ q. rw q))
 
   pub waiting-stored : (n : ℕ) → count (λ k. isWaiting (modeOf t k)) (min n siteLimit) ≡ count (λ k. isWaiting (modeOf t k)) n

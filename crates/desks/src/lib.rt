@@ -3,9 +3,8 @@ use rig::Desk;
 use rig::Rig;
 use rig::Table;
 ghost use mathlib.Core.Path.{_≡_};
-ghost use Rattle.model.specs.State.{deskOf, withDesk};
+ghost use Rattle.model.specs.State.{tables, deskOf, withDesk};
 ghost use Rattle.rig.specs.Limits.{Listed};
-ghost use Rattle.desks.specs.Whole.{tables};
 
 // An inner call: all that site s has.
 pub fn desk(rig: Rig, held: &Table, heir: &Table, inquired: &Table, queued: &Table, s: u64) -> Desk

@@ -6,6 +6,7 @@ use mathlib.Core.Option.{some}
 use lib.ListN.{length, length-map}
 use Rattle.rig.specs.declared.Event.{Event}
 use Rattle.rig.specs.Limits.{messageLimit}
+use Rattle.model.specs.State.{tables}
 use Rattle.model.specs.Event as M
 use Rattle.model.specs.Run.{waitingCount}
 use Rattle.model.specs.Printed.{insideUpTo, lineOf}
@@ -14,7 +15,6 @@ use Rattle.members.specs.Ties.{tablesOf}
 use Rattle.counts.proofs.Sites.{inside-same, waiting-same}
 use Rattle.mail.specs.Rows.{messageOf}
 use Rattle.mail.specs.Places.{cleared}
-use Rattle.desks.specs.Whole.{tables}
 use Rattle.accepting.specs.declared.Answer.{Answer}
 use Rattle.accepting.specs.Whole.{stored, answered}
 use Rattle.attempts.specs.Asks.{Ready}

@@ -6,20 +6,20 @@ use mathlib.Core.Bool.{Bool, true, false}
 use native.Mathlib.Omega.{arith}
 use lib.Dec.{eqb}
 use borrow.Author.Tests.{eqb-true, eqb-false, ne-eqb}
-use Rattle.basics.specs.Helpers.{all}
+use Rattle.basics.specs.Helpers.{all, lowest}
 use Rattle.basics.proofs.Basics.{by-bool, and-split}
 use Rattle.faults.specs.Faults.{firstNot}
 
 module _ (p : ℕ → Bool) where
   -- none where all pass
   pub first-none : (n : ℕ) → all p n ≡ true → firstNot p n ≡ 0
-  unfolding firstNot all
+  unfolding firstNot lowest all
   first-none zero e = refl
   first-none (suc n) e = let a = and-split (all p n) (p (suc n)) e in rw (first-none n (a .0), a .1)
 
   -- all pass where there is none
   pub none-all : (n : ℕ) → firstNot p n ≡ 0 → all p n ≡ true
-  unfolding firstNot all
+  unfolding firstNot lowest all
   none-all zero e = refl
   none-all (suc n) e =
       by-bool (eqb (firstNot p n) 0)
@@ -32,7 +32,7 @@ module _ (p : ℕ → Bool) where
 
   -- the one after those that pass
   pub first-found : (i n : ℕ) → all p i ≡ true → p (suc i) ≡ false → suc i ≤ n → firstNot p n ≡ suc i
-  unfolding firstNot
+  unfolding firstNot lowest
   first-found i zero a f h = absurd (omega arith)
   first-found i (suc n) a f h =
       by-bool (eqb i n)
@@ -40,7 +40,7 @@ module _ (p : ℕ → Bool) where
       (λ e. let w = eqb-false i n e in rw (first-found i n a f (omega arith), ne-eqb (suc i) 0 (λ z. omega arith)))
 
   within : (n : ℕ) → firstNot p n ≤ n
-  unfolding firstNot
+  unfolding firstNot lowest
   within zero = omega arith
   within (suc n) =
       let w = within n in

@@ -1,18 +1,15 @@
 -- Document 01, "The player": the line that a refused setup names.
-use Prim.Native.Nat.{ℕ, zero, suc, _+_}
+use Prim.Native.Nat.{ℕ, _+_}
 use mathlib.Core.Bool.{Bool, not, cond}
 use mathlib.Core.List.{List}
-use lib.Dec.{eqb}
+use Rattle.basics.specs.Helpers.{lowest}
 use Rattle.model.specs.Tables.{at}
 use Rattle.model.specs.Sets.{names}
 use Rattle.model.specs.Setup.{allName, meetsEarlier}
 
 -- the lowest of 1 to n that fails a test, 0 none
 unfoldable pub firstNot : (ℕ → Bool) → ℕ → ℕ
-firstNot p zero = 0
-firstNot p (suc i) =
-    let k = firstNot p i in
-    cond (eqb k 0) (cond (p (suc i)) 0 (suc i)) k
+firstNot p n = lowest (λ k. not (p k)) n
 
 -- "for 2 the first faulty set": it is empty or names a site outside 1 to n
 abbrev pub firstFaulty : ℕ → List ℕ → ℕ

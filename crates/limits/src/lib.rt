@@ -6,13 +6,14 @@ use rig::Rig;
 ghost use mathlib.Core.Path.{_≡_};
 ghost use mathlib.Core.List.{map};
 ghost use lib.ListN.{take};
-ghost use Rattle.model.specs.Event.{allNumbers};
+ghost use Rattle.rig.specs.Limits.{numberLimit};
+ghost use Rattle.model.specs.Event.{numbersUpTo};
 ghost use Rattle.mail.specs.Rows.{messageOf};
 ghost use Rattle.limits.specs.Limit.{limitOf};
 
 // Whether the numbers of the first n messages, or of all where there are fewer, are in range.
 fn all_numbers(sent: &[Row], n: usize) -> bool
-    ensures { λ r. ⌜ r ≡ allNumbers (map messageOf (take n (now (sent .entry)))) ⌝ }
+    ensures { λ r. ⌜ r ≡ numbersUpTo numberLimit (map messageOf (take n (now (sent .entry)))) ⌝ }
 {
     for i in 0..n {
         if i >= sent.len() {

@@ -16,6 +16,7 @@ pub mod Delivered
 pub mod DeskSizes
 pub mod Plain
 pub mod Reached
+pub mod Codes
 pub mod Theorem
 pub mod Always
 pub mod OfRun

@@ -30,7 +30,7 @@ module _ {s : Stored} (r : OfRun s) where
 
   pub run-shaped : wellShaped (s .tables) (underWay s) ≡ true
   unfolding AlwaysShaped
-  run-shaped = rw (r .same) (always-shaped (r .size) (r .sets) (r .list) (r .events) (r .passed))
+  run-shaped = rw (r .same) (always-shaped (r .size) (r .sets) (r .list) (r .events) (r .passed) .0)
 
   pub run-few : s .count ≤ messageLimit
   run-few = rw (r .same) (run-of (r .size) (r .sets) (r .list) (r .events) (r .passed) .few)

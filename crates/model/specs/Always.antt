@@ -1,36 +1,33 @@
 -- What else holds of every state of a run, beside demand 3.
 use Prim.Native.Nat.{ℕ, _*_, _≤_}
 use mathlib.Core.Path.{_≡_}
+use mathlib.Core.Logic.{_≢_}
 use mathlib.Core.Bool.{Bool, true, _&&_, _||_, cond}
 use mathlib.Core.List.{List, [], _∷_}
-use lib.Dec.{eqb, leb}
+use lib.Dec.{eqb}
+use lib.ListN.{length}
 use Rattle.rig.specs.declared.Event.{Event}
 use Rattle.rig.specs.declared.Message.{Message}
-use Rattle.rig.specs.Limits.{eventLimit}
+use Rattle.rig.specs.Limits.{messageLimit, eventLimit}
 use Rattle.rig.specs.Messages.{REPLY, RELEASE, YIELD}
-use Rattle.model.specs.Setup.{setupCode}
 use Rattle.model.specs.State.{Tables, seqIn, siteOf, modeOf, arbiterOf, heldOf, inquiredOf, queuedOf, deskOf}
 use Rattle.model.specs.Arbiter.{fromHolder, isEarly}
 use Rattle.model.specs.Site.{takes}
 use Rattle.model.specs.Shape.{wellShaped}
-use Rattle.model.specs.Event.{Stored, underWay, event}
-use Rattle.model.specs.Run.{fresh, run}
+use Rattle.model.specs.Event.{numbersUpTo, Stored, underWay, event}
+use Rattle.model.specs.Run.{fresh, run, Always}
 
--- a property of every state of every run of sets that setup passes
-abbrev pub Always : (Stored → Type 0) → Type 0
-Always P =
-    (n : ℕ) (sets : List ℕ) (list : List Message) (es : List Event) →
-    setupCode n sets ≡ 0 → P (run (fresh n sets list) es)
-
--- Every state of a run is well shaped, so no event of a run is refused with 10.
+-- Every state of a run is well shaped, and no event of a run is refused with 10,
 unfoldable pub AlwaysShaped : Type 0
-AlwaysShaped = Always (λ s. wellShaped (s .tables) (underWay s) ≡ true)
+AlwaysShaped = Always (λ s. (wellShaped (s .tables) (underWay s) ≡ true) × ((e : Event) → event s e .code ≢ 10))
+
+-- nor with 13, where the lent list is 1,024 entries long at the start.
+unfoldable pub AlwaysLong : Type 0
+AlwaysLong =
+    (n : ℕ) (sets : List ℕ) (list : List Message) (es : List Event) →
+    length list ≡ messageLimit → (e : Event) → event (run (fresh n sets list) es) e .code ≢ 13
 
 -- every clock, sequence and grant number is at most b
-unfoldable pub numbersUpTo : ℕ → List Message → Bool
-numbersUpTo b [] = true
-numbersUpTo b (m ∷ ms) = leb (m .number) b && numbersUpTo b ms
-
 pub record NumbersWithin (b : ℕ) (s : Stored) : Type 0 where
   pub clock : (k : ℕ) → siteOf (s .tables) k .clock ≤ b
   pub seq : (k : ℕ) → seqIn (modeOf (s .tables) k) ≤ b

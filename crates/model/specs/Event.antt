@@ -9,7 +9,7 @@ use Rattle.basics.specs.Helpers.{first, withoutFirst}
 use Rattle.rig.specs.declared.Message.{Message}
 use Rattle.rig.specs.declared.Event.{Event}
 use Rattle.rig.specs.declared.Event.the-variants.{Ask, Leave, Deliver}
-use Rattle.rig.specs.Limits.{messageLimit, eventLimit}
+use Rattle.rig.specs.Limits.{messageLimit, eventLimit, numberLimit}
 use Rattle.model.specs.State.{Tables, inRange, modeOf, isResting, isInside, deskOf, withDesk}
 use Rattle.model.specs.Desk.{Effect}
 use Rattle.model.specs.Ask.{asked}
@@ -45,14 +45,15 @@ attempt t ms (Ask s) = cond (isResting (modeOf t s)) (possible (asked (deskOf t 
 attempt t ms (Leave s) = cond (isInside (modeOf t s)) (possible (left (deskOf t s)) ms) (refused 6)
 attempt t ms (Deliver a b) = takenOff t b (first (between a b) ms) (withoutFirst (between a b) ms)
 
-unfoldable pub allNumbers : List Message → Bool
-allNumbers [] = true
-allNumbers (m ∷ ms) = isNumber (m .number) && allNumbers ms
+-- no message's number passes b
+unfoldable pub numbersUpTo : ℕ → List Message → Bool
+numbersUpTo b [] = true
+numbersUpTo b (m ∷ ms) = leb (m .number) b && numbersUpTo b ms
 
 -- The numbers that an event makes are its site's clock, which is also the sequence number of an ask, its arbiter's grant number, and
 -- those of the messages sent: none passes 2,000,000.
 unfoldable pub numbersFit : Effect → Bool
-numbersFit e = isNumber (e .desk .site .clock) && (isNumber (e .desk .arbiter .grant) && allNumbers (e .sent))
+numbersFit e = isNumber (e .desk .site .clock) && (isNumber (e .desk .arbiter .grant) && numbersUpTo numberLimit (e .sent))
 
 -- "Then 9 if 1,000,000 events have been accepted or a number would pass 2,000,000. Last, 8 if the list would pass 1,024 after the
 -- event."

@@ -1,10 +1,9 @@
 -- Document 01, "The player": "Each event prints its place from 1, its code (0 accepted), the site inside (0 none), the count waiting and
 -- the count under way."
-use Prim.Native.Nat.{ℕ, zero, suc, _+_}
-use mathlib.Core.Bool.{cond}
+use Prim.Native.Nat.{ℕ, _+_}
 use mathlib.Core.List.{List, [], _∷_}
-use lib.Dec.{eqb}
 use Rattle.rig.specs.declared.Event.{Event}
+use Rattle.basics.specs.Helpers.{lowest}
 use Rattle.model.specs.State.{Tables, sizeOf, modeOf, isInside}
 use Rattle.model.specs.Event.{Stored, Answer, event}
 use Rattle.model.specs.Run.{waitingCount}
@@ -18,10 +17,7 @@ pub record Line : Type 0 where
 
 -- the lowest of the sites 1 to n that is inside, 0 none
 unfoldable pub insideUpTo : Tables → ℕ → ℕ
-insideUpTo t zero = 0
-insideUpTo t (suc i) =
-    let k = insideUpTo t i in
-    cond (eqb k 0) (cond (isInside (modeOf t (suc i))) (suc i) 0) k
+insideUpTo t n = lowest (λ k. isInside (modeOf t k)) n
 
 unfoldable pub lineOf : ℕ → Answer → Line
 lineOf place a = record {

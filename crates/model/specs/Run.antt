@@ -30,6 +30,12 @@ pub record OfRun (s : Stored) : Type 0 where
   pub passed : setupCode size sets ≡ 0
   pub same : s ≡ run (fresh size sets list) events
 
+-- a property of every state of every run of sets that setup passes
+abbrev pub Always : (Stored → Type 0) → Type 0
+Always P =
+    (n : ℕ) (sets : List ℕ) (list : List Message) (es : List Event) →
+    setupCode n sets ≡ 0 → P (run (fresh n sets list) es)
+
 -- "Places of arbiter j's permission, counted together: free, if j has no holder;"
 unfoldable pub freeAt : Tables → ℕ → ℕ
 freeAt t j = cond (eqb (arbiterOf t j .holder) 0) 1 0
@@ -69,6 +75,4 @@ pub record Sound (s : Stored) : Type 0 where
 -- Demand 3: "For EVERY family that setup passes and EVERY list of asks, leaves and deliveries, refused ones included", "A run without
 -- events counts too." The lent list is any list: where it is not 1,024 entries long, every event is refused with 13.
 unfoldable pub Demand3 : Type 0
-Demand3 =
-    (n : ℕ) (sets : List ℕ) (list : List Message) (es : List Event) →
-    setupCode n sets ≡ 0 → Sound (run (fresh n sets list) es)
+Demand3 = Always Sound

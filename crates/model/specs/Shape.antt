@@ -2,7 +2,7 @@
 -- that setup would refuse, an entry for a non-member that isn't 0, or a holder, queued site, heir or message that ties a site to an
 -- arbiter outside its set (in a reply the arbiter is `about` and the site is `to`; a named heir is such a site too)."
 -- Each table has a test of its own, and `wellShaped` is all of them. Every test goes over all the places of a table, those past N too:
--- a site past N has an empty set, so that no arbiter is its member.
+-- a site past N has an empty set, so that no arbiter is its member. A tie of site k to arbiter j is in k's set if `hasMember t k j`.
 use Prim.Native.Nat.{ℕ}
 use mathlib.Core.Bool.{Bool, true, false, _&&_, _||_, cond}
 use mathlib.Core.List.{List, [], _∷_}
@@ -26,10 +26,6 @@ isNumber n = leb n numberLimit
 -- a sequence or grant number of at least 1
 unfoldable pub isGiven : ℕ → Bool
 isGiven n = leb 1 n && isNumber n
-
--- "Each site has a request set of sites": site k is tied to arbiter j only if j is in k's set
-abbrev pub tied : Tables → ℕ → ℕ → Bool
-tied t k j = hasMember t k j
 
 -- The sets: such as setup passes, and "all past N is 0".
 unfoldable pub setsShaped : Tables → Bool
@@ -58,7 +54,7 @@ sitesShaped t = all (siteShaped t) siteLimit
 unfoldable pub holderShaped : Tables → ℕ → Bool
 holderShaped t j =
     cond (eqb (arbiterOf t j .holder) 0) (eqb (arbiterOf t j .seq) 0)
-    (tied t (arbiterOf t j .holder) j && isGiven (arbiterOf t j .seq))
+    (hasMember t (arbiterOf t j .holder) j && isGiven (arbiterOf t j .seq))
 
 unfoldable pub arbiterShaped : Tables → ℕ → Bool
 arbiterShaped t j =
@@ -73,18 +69,18 @@ entryShaped tie n = cond tie (isNumber n) (eqb n 0)
 
 -- what site k has for arbiter j
 unfoldable pub heldShaped : Tables → ℕ → ℕ → Bool
-heldShaped t k j = entryShaped (tied t k j) (heldOf t k j)
+heldShaped t k j = entryShaped (hasMember t k j) (heldOf t k j)
 
 unfoldable pub inquiredShaped : Tables → ℕ → ℕ → Bool
-inquiredShaped t k j = entryShaped (tied t k j) (inquiredOf t k j)
+inquiredShaped t k j = entryShaped (hasMember t k j) (inquiredOf t k j)
 
 -- an heir is a site that has j in its set
 unfoldable pub heirShaped : Tables → ℕ → ℕ → Bool
-heirShaped t k j = eqb (heirOf t k j) 0 || (tied t k j && tied t (heirOf t k j) j)
+heirShaped t k j = eqb (heirOf t k j) 0 || (hasMember t k j && hasMember t (heirOf t k j) j)
 
 -- Arbiter j's queue: a queued site has j in its set.
 unfoldable pub queuedShaped : Tables → ℕ → ℕ → Bool
-queuedShaped t j k = entryShaped (tied t k j) (queuedOf t j k)
+queuedShaped t j k = entryShaped (hasMember t k j) (queuedOf t j k)
 
 -- a test over all the places of a table
 unfoldable pub everywhere : (ℕ → ℕ → Bool) → Bool
@@ -97,13 +93,13 @@ numberShaped m = cond (eqb (m .kind) FAIL) (eqb (m .number) 0) (isGiven (m .numb
 -- "`about` is the arbiter in a reply, the heir in a transfer, the heir or 0 in a release, otherwise 0", and who is tied to whom
 unfoldable pub aboutShaped : Tables → Message → Bool
 aboutShaped t m =
-    cond (eqb (m .kind) REQUEST) (eqb (m .about) 0 && tied t (m .from) (m .to))
-    (cond (eqb (m .kind) REPLY) (tied t (m .to) (m .about))
-    (cond (eqb (m .kind) RELEASE) (tied t (m .from) (m .to) && (eqb (m .about) 0 || tied t (m .about) (m .to)))
-    (cond (eqb (m .kind) INQUIRE) (eqb (m .about) 0 && tied t (m .to) (m .from))
-    (cond (eqb (m .kind) FAIL) (eqb (m .about) 0 && tied t (m .to) (m .from))
-    (cond (eqb (m .kind) YIELD) (eqb (m .about) 0 && tied t (m .from) (m .to))
-    (cond (eqb (m .kind) TRANSFER) (tied t (m .to) (m .from) && tied t (m .about) (m .from))
+    cond (eqb (m .kind) REQUEST) (eqb (m .about) 0 && hasMember t (m .from) (m .to))
+    (cond (eqb (m .kind) REPLY) (hasMember t (m .to) (m .about))
+    (cond (eqb (m .kind) RELEASE) (hasMember t (m .from) (m .to) && (eqb (m .about) 0 || hasMember t (m .about) (m .to)))
+    (cond (eqb (m .kind) INQUIRE) (eqb (m .about) 0 && hasMember t (m .to) (m .from))
+    (cond (eqb (m .kind) FAIL) (eqb (m .about) 0 && hasMember t (m .to) (m .from))
+    (cond (eqb (m .kind) YIELD) (eqb (m .about) 0 && hasMember t (m .from) (m .to))
+    (cond (eqb (m .kind) TRANSFER) (hasMember t (m .to) (m .from) && hasMember t (m .about) (m .from))
     false))))))
 
 unfoldable pub messageShaped : Tables → Message → Bool

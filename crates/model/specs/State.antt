@@ -24,6 +24,10 @@ pub record Tables : Type 0 where
   pub inquired : List (List ℕ)
   pub queued : List (List ℕ)
 
+-- a rig and its four tables of numbers
+abbrev pub tables : Rig → List (List ℕ) → List (List ℕ) → List (List ℕ) → List (List ℕ) → Tables
+tables g held heir inquired queued = record { rig = g; held = held; heir = heir; inquired = inquired; queued = queued }
+
 -- "Fresh: all but N and the sets zero, at rest": the tables of setup's sets
 unfoldable pub freshTables : ℕ → List ℕ → Tables
 freshTables n sets = record { rig = freshRig n sets; held = blankTable; heir = blankTable; inquired = blankTable; queued = blankTable }

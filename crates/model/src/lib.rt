@@ -3,7 +3,7 @@
 // with the code and show in the list of proved functions. Both answer 0.
 ghost use mathlib.Core.Path.{_≡_};
 ghost use Rattle.model.specs.Run.{Demand3};
-ghost use Rattle.model.specs.Always.{AlwaysShaped, NumbersSmall, NineByCount, NeverStray};
+ghost use Rattle.model.specs.Always.{AlwaysShaped, AlwaysLong, NumbersSmall, NineByCount, NeverStray};
 
 // Demand 3: after every event of every run, at most one site is inside, every permission is in one place, and no rig is stuck.
 pub fn demand_3() -> u8
@@ -12,9 +12,10 @@ pub fn demand_3() -> u8
     0
 }
 
-// Beyond demand 3: no event of a run is refused with 10, or with 9 but for the count of events, and no message of a run is stray.
+// Beyond demand 3: no event of a run is refused with 10, or with 13 where its list began with 1,024 entries, or with 9 but for the count
+// of events; and no reply, yield or plain release of a run is stray.
 pub fn beyond() -> u8
-    ensures { λ r. ⌜ (r ≡ 0) × AlwaysShaped × NumbersSmall × NineByCount × NeverStray ⌝ }
+    ensures { λ r. ⌜ (r ≡ 0) × AlwaysShaped × AlwaysLong × NumbersSmall × NineByCount × NeverStray ⌝ }
 {
     0
 }

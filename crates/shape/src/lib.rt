@@ -17,12 +17,12 @@ ghost use lib.Dec.{leb};
 ghost use lib.ListN.{take};
 ghost use Rattle.rig.specs.Limits.{messageLimit};
 ghost use Rattle.mail.specs.Rows.{messageOf};
+ghost use Rattle.model.specs.State.{tables};
 ghost use Rattle.model.specs.Shape.{tablesShaped, wellShaped};
-ghost use Rattle.shape.specs.Parts.{stored};
 
 // The tables: sets, accepted events, sites, arbiters, and the four of numbers.
 pub fn tables_shaped(rig: Rig, held: &Table, heir: &Table, inquired: &Table, queued: &Table) -> bool
-    ensures { λ r. ⌜ r ≡ tablesShaped (stored rig (now (held .entry)) (now (heir .entry)) (now (inquired .entry)) (now (queued .entry))) ⌝ }
+    ensures { λ r. ⌜ r ≡ tablesShaped (tables rig (now (held .entry)) (now (heir .entry)) (now (inquired .entry)) (now (queued .entry))) ⌝ }
 {
     if !sets_shaped(rig.size, &rig.sets) {
         return false;
@@ -65,7 +65,7 @@ pub fn well_shaped(
     list: &[Row],
     count: usize,
 ) -> bool
-    ensures { λ r. ⌜ r ≡ wellShaped (stored rig (now (held .entry)) (now (heir .entry)) (now (inquired .entry)) (now (queued .entry))) (map messageOf (take count (now (list .entry)))) ⌝ }
+    ensures { λ r. ⌜ r ≡ wellShaped (tables rig (now (held .entry)) (now (heir .entry)) (now (inquired .entry)) (now (queued .entry))) (map messageOf (take count (now (list .entry)))) ⌝ }
 {
     if !tables_shaped(rig, held, heir, inquired, queued) {
         return false;

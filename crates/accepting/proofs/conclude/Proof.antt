@@ -6,7 +6,7 @@ use denote.Ref.{now}
 use lib.ListN.{length}
 use borrow.Author.Tests.{ne-eqb}
 use borrow.Author.Needs.{needs}
-use Rattle.desks.specs.Whole.{tables}
+use Rattle.model.specs.State.{tables}
 use Rattle.accepting.proofs.Judged.{limit-same, has-room, over-limit, within-limit}
 use Rattle.accepting.proofs.conclude.Statement.{statement}
 use Rattle.accepting.proofs.conclude.Tie as tie

@@ -1,5 +1,5 @@
 -- `deliver`: 4, 7, or what the rule does, judged.
-use mathlib.Core.Path.{_≡_, sym, _∙_}
+use mathlib.Core.Path.{_≡_, refl, sym, _∙_}
 use mathlib.Core.List.{[]}
 use native.Mathlib.Omega.{arith}
 use denote.Ref.{now}
@@ -18,6 +18,7 @@ use Rattle.mail.proofs.Places.{found-at}
 use Rattle.accepting.specs.Whole.{stored}
 use Rattle.attempts.proofs.Shaped.{size, listed, grant, sender, about-arbiter, about-high}
 use Rattle.attempts.proofs.Answers.{did-effect, did-fits, found-none, found-first, found-rest, same-judged, unnamed, none-under-way, delivers}
+use Rattle.attempts.proofs.AtPlace.{with-place}
 use Rattle.attempts.proofs.deliver.Statement.{statement}
 use Rattle.attempts.proofs.deliver.Tie as tie
 use Rattle.accepting.proofs.conclude.Reads as conclude-reads
@@ -35,10 +36,10 @@ unfolding sitesNamed
 returns c =
     let a = c .before .before .args in
     let entry = stored (a .rig) (now (a .held)) (now (a .heir)) (now (a .inquired)) (now (a .queued)) (now (a .list)) (a .count) in
-    record {
+    with-place (a .a) (a .b) entry (now (a .list)) _ _ _ _ _ _ refl (c .before .before .pre) (record {
       answer = sym (unnamed entry (c .before .before .pre) (Deliver (a .a) (a .b)) (rw (sym (c .before .is-site .ensures) ∙ not-true _ (c .if1 .taken))));
       blank = λ h. h;
-    }
+    })
 
 is-site-requires-2 : tie.Need-is-site-requires-2
 is-site-requires-2 c κs = search needs
@@ -48,10 +49,10 @@ unfolding sitesNamed
 returns-2 c =
     let a = c .before .before .before .before .args in
     let entry = stored (a .rig) (now (a .held)) (now (a .heir)) (now (a .inquired)) (now (a .queued)) (now (a .list)) (a .count) in
-    record {
+    with-place (a .a) (a .b) entry (now (a .list)) _ _ _ _ _ _ refl (c .before .before .before .before .pre) (record {
       answer = sym (unnamed entry (c .before .before .before .before .pre) (Deliver (a .a) (a .b)) (and-second (inRange (entry .tables) (a .a)) (inRange (entry .tables) (a .b)) (sym (c .before .is-site2 .ensures) ∙ not-true _ (c .if2 .taken))));
       blank = λ h. h;
-    }
+    })
 
 first-requires : tie.Need-first-requires
 first-requires c κs = search needs
@@ -73,7 +74,7 @@ returns-3 c =
     let from = sym (c .before .before .before .before .before .before .before .is-site .ensures) ∙ not-false _ (c .before .before .before .before .before .before .if1 .left) in
     let to = sym (c .before .before .before .before .before .is-site2 .ensures) ∙ not-false _ (c .before .before .before .before .if2 .left) in
     let none = found-none (a .a) (a .b) (a .count) (now (a .list)) (sym (c .before .before .first .ensures) ∙ c .enum-told .given .1) in
-    record { answer = sym (none-under-way entry (c .before .before .before .before .before .before .before .before .pre) (a .a) (a .b) from to none); blank = λ h. h }
+    with-place (a .a) (a .b) entry (now (a .list)) _ _ _ _ _ _ refl (c .before .before .before .before .before .before .before .before .pre) (record { answer = sym (none-under-way entry (c .before .before .before .before .before .before .before .before .pre) (a .a) (a .b) from to none); blank = λ h. h })
 
 desk-requires : tie.Need-desk-requires
 desk-requires c κs =
@@ -156,10 +157,10 @@ returns-4 c =
     let d = c .before .before .before .before .before .before .before .before .before .deliver .ensures in
     let m = messageOf (getD (now (a .list)) place []) in
     let does : delivered (c .before .before .before .before .before .before .before .before .before .before .before .before .before .desk .result) (c .before .before .before .before .before .before .before .before .before .before .before .message .result) ≡ delivered (deskOf (entry .tables) (a .b)) m = rw (c .before .before .before .before .before .before .before .before .before .before .before .before .before .desk .ensures, c .before .before .before .before .before .before .before .before .before .before .before .message .ensures) in
-    record {
+    with-place (a .a) (a .b) entry (now (a .list)) _ _ _ _ _ _ refl p (record {
       answer = x .0 ∙ same-judged entry (a .b) (did-effect d ∙ does) (found-rest (a .a) (a .b) (a .count) (now (a .list)) place found) ∙ sym (delivers entry p (a .a) (a .b) from to m (found-first (a .a) (a .b) (a .count) (now (a .list)) place found));
       blank = x .1;
-    }
+    })
 
 pub deliver-spec : {M : Type 1} → statement M
 deliver-spec =

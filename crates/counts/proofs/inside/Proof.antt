@@ -5,6 +5,7 @@ use native.Mathlib.Omega.{arith}
 use borrow.Author.Needs.{needs}
 use lib.ListN.{length, length-map}
 use Rattle.rig.specs.Limits.{siteLimit}
+use Rattle.basics.specs.Helpers.{lowest}
 use Rattle.model.specs.Tables.{at}
 use Rattle.model.specs.Printed.{insideUpTo}
 use Rattle.members.specs.Ties.{tablesOf}
@@ -22,7 +23,7 @@ stored-sites-requires : tie.Need-stored-sites-requires Inv-loop μ-loop
 stored-sites-requires c κs = search needs
 
 loop-holds : tie.Need-loop-holds Inv-loop μ-loop
-unfolding insideUpTo
+unfolding insideUpTo lowest
 loop-holds c = search needs
 
 mul-site : tie.Need-mul-site Inv-loop μ-loop

@@ -40,7 +40,7 @@ same-length-3 : tie.Need-same-length-3
 same-length-3 c = search needs
 
 returns-3 : tie.Need-returns-3
-returns-3 c = rw (c .before .before .before .before .before .before .before .before .e3 .given .1) (c .before .deliver .ensures)
+returns-3 c = rw (c .before .before .before .before .before .before .before .before .e3 .given .1) (c .before .deliver .ensures .0)
 
 pub play-spec : {M : Type 1} → statement M
 play-spec =

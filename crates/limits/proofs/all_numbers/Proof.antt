@@ -10,22 +10,23 @@ use borrow.Author.Tests.{not-true, not-false}
 use denote.Ref.{now}
 use lib.ListN.{take}
 use lib.Seq.{take-all}
+use Rattle.rig.specs.Limits.{numberLimit}
 use Rattle.mail.specs.Rows.{messageOf}
 use Rattle.model.specs.Shape.{isNumber}
-use Rattle.model.specs.Event.{allNumbers}
+use Rattle.model.specs.Event.{numbersUpTo}
 use Rattle.mail.proofs.Tests.{each-more, each-fails}
 use borrow.Author.Needs.{needs}
 use Rattle.limits.proofs.all_numbers.Statement.{statement}
 use Rattle.limits.proofs.all_numbers.Tie as tie
 
 abbrev Inv-loop : tie.InvT-loop
-Inv-loop sent n i₀ i = (i ≤ n) × (allNumbers (map messageOf (take i sent)) ≡ true)
+Inv-loop sent n i₀ i = (i ≤ n) × (numbersUpTo numberLimit (map messageOf (take i sent)) ≡ true)
 
 abbrev μ-loop : tie.MeasureT-loop
 μ-loop sent n i₀ i = n - i
 
 loop-holds : tie.Need-loop-holds Inv-loop μ-loop
-unfolding allNumbers
+unfolding numbersUpTo
 loop-holds c = search needs
 
 returns : tie.Need-returns Inv-loop μ-loop
@@ -47,11 +48,11 @@ is-number-requires : tie.Need-is-number-requires Inv-loop μ-loop
 is-number-requires c κs = search needs
 
 returns-2 : tie.Need-returns-2 Inv-loop μ-loop
-unfolding allNumbers
+unfolding numbersUpTo isNumber
 returns-2 c =
     let l = c .before .before .before .before .before .before .loop in
     let a = c .before .before .before .before .before .before .before .args in
-    sym (each-fails (λ m. isNumber (m .number)) allNumbers refl (λ m ms. refl) (now (a .sent)) (a .n) (l .i) (omega arith) (omega arith) (sym (rw (c .before .before .message .ensures) at (c .before .is-number .ensures)) ∙ not-true _ (c .if2 .taken)))
+    sym (each-fails (λ m. isNumber (m .number)) (numbersUpTo numberLimit) refl (λ m ms. refl) (now (a .sent)) (a .n) (l .i) (omega arith) (omega arith) (sym (rw (c .before .before .message .ensures) at (c .before .is-number .ensures)) ∙ not-true _ (c .if2 .taken)))
 
 add-i : tie.Need-add-i Inv-loop μ-loop
 add-i c = search needs
@@ -60,11 +61,11 @@ loop-less : tie.Need-loop-less Inv-loop μ-loop
 loop-less c = search needs
 
 loop-again : tie.Need-loop-again Inv-loop μ-loop
-unfolding allNumbers
+unfolding numbersUpTo isNumber
 loop-again c =
     let l = c .before .before .before .before .before .before .loop in
     let a = c .before .before .before .before .before .before .before .args in
-    (omega arith, rw add-one (each-more (λ m. isNumber (m .number)) allNumbers refl (λ m ms. refl) (now (a .sent)) (l .i) (omega arith) (l .inv .1) (sym (rw (c .before .before .message .ensures) at (c .before .is-number .ensures)) ∙ not-false _ (c .if2 .left))))
+    (omega arith, rw add-one (each-more (λ m. isNumber (m .number)) (numbersUpTo numberLimit) refl (λ m ms. refl) (now (a .sent)) (l .i) (omega arith) (l .inv .1) (sym (rw (c .before .before .message .ensures) at (c .before .is-number .ensures)) ∙ not-false _ (c .if2 .left))))
 
 returns-3 : tie.Need-returns-3 Inv-loop μ-loop
 returns-3 c = sym (rw (le-antisymm (c .before .loop .inv .0) (c .loop-test .left)) at (c .before .loop .inv .1))

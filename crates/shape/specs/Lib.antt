@@ -1,2 +1,0 @@
--- The tables as the functions take them.
-pub mod Parts
