@@ -1,4 +1,4 @@
--- What the calls on one site's desk ask of their callers.
+-- What an ask and a leave need of their callers.
 use Prim.Native.Nat.{ℕ, _+_, _≤_}
 use mathlib.Core.List.{List}
 use lib.ListN.{length}
