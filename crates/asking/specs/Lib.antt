@@ -1,2 +1,2 @@
-pub mod Asks
+pub mod Needs
 pub mod Turns

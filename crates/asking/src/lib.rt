@@ -15,7 +15,7 @@ ghost use Rattle.model.specs.Desk.{withSite, withoutEntries};
 ghost use Rattle.model.specs.Ask.{requests, asked};
 ghost use Rattle.model.specs.Leave.{handOn, handOns, left};
 ghost use Rattle.mail.specs.Did.{Did, Sent};
-ghost use Rattle.asking.specs.Asks.{AskFits, LeaveFits};
+ghost use Rattle.asking.specs.Needs.{AskFits, LeaveFits};
 ghost use Rattle.asking.specs.Turns.{requestIf, handOnIf};
 
 // The desk with no entries, and with the given site.

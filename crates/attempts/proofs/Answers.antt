@@ -32,7 +32,7 @@ use Rattle.mail.proofs.Places.{found-nowhere, found-at, found-stays}
 use Rattle.accepting.specs.declared.Answer.{Answer}
 use Rattle.accepting.specs.Whole.{effectOf, staying, tidied}
 use Rattle.accepting.proofs.Blank.{without-none}
-use Rattle.attempts.specs.Asks.{Ready}
+use Rattle.attempts.specs.Needs.{Ready}
 
 -- What a rule's call did, with nothing sent before, is its effect.
 module _ {e : Effect} {rows after : List (List ℕ)} {a : Acted} (d : Did e 0 rows after a) where

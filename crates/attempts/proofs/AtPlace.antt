@@ -18,7 +18,7 @@ use Rattle.mail.specs.Rows.{messageOf}
 use Rattle.mail.specs.Places.{placeFrom, foundFrom}
 use Rattle.accepting.specs.declared.Answer.{Answer}
 use Rattle.accepting.specs.Whole.{answered, tidied}
-use Rattle.attempts.specs.Asks.{Ready, Played}
+use Rattle.attempts.specs.Needs.{Ready, Played}
 use Rattle.attempts.specs.AtPlace.{attemptAt, ByPlace}
 use Rattle.attempts.proofs.Answers.{under-way, judged-next}
 

@@ -13,7 +13,7 @@ use rig::Rig;
 use rig::Table;
 ghost use Rattle.rig.specs.declared.Event.the-variants.{Ask, Leave, Deliver};
 ghost use Rattle.accepting.specs.Whole.{stored, answered, tidied};
-ghost use Rattle.attempts.specs.Asks.{Ready, Played};
+ghost use Rattle.attempts.specs.Needs.{Ready, Played};
 ghost use Rattle.attempts.specs.AtPlace.{ByPlace};
 
 // The messages that one event may send: at most two for each site.

@@ -68,7 +68,8 @@ pathSite q i j (suc k) = nextSite q i j (suc k) (pathSite q i j k)
 unfoldable pub billiardEntry : ℕ → ℕ → ℕ → ℕ
 billiardEntry q n k = pathSite q (rowOf q n) (columnOf q n) (k - 1)
 
--- What the code's own steps ask: that none of them goes below site 1, from a site that is no larger than N is for q = 9.
+-- What the code's own steps need, and no part of document 01: that none of them goes below 0, from a site that is no larger than N is for
+-- q = 9. `pathFits` and `Location` below are such needs too.
 unfoldable pub stepFits : ℕ → ℕ → ℕ → ℕ → ℕ → Bool
 stepFits q i j k x =
     leb x (billiardSize 9)

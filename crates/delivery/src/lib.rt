@@ -12,7 +12,7 @@ use site::on_reply;
 use site::on_transfer;
 ghost use Rattle.model.specs.Deliver.{delivered};
 ghost use Rattle.mail.specs.Did.{Did};
-ghost use Rattle.delivery.specs.Asks.{Fits};
+ghost use Rattle.delivery.specs.Needs.{Fits};
 
 // An inner call: the message m comes to its receiver's desk. Messages go to `out`, behind the first `count` rows.
 pub fn deliver(d: Desk, m: Message, out: &mut [Row], count: usize) -> Acted

@@ -13,7 +13,7 @@ use Rattle.mail.specs.Rows.{messageOf}
 use Rattle.mail.specs.Places.{cleared}
 use Rattle.accepting.specs.declared.Answer.{Answer}
 use Rattle.accepting.specs.Whole.{answered}
-use Rattle.attempts.specs.Asks.{Played}
+use Rattle.attempts.specs.Needs.{Played}
 use Rattle.engine.specs.Stepped.{Stepped}
 use Rattle.attempts.proofs.Answers.{tidied-blank}
 

@@ -13,7 +13,7 @@ ghost use mathlib.Core.Path.{_≡_};
 ghost use Rattle.model.specs.Event.{event};
 ghost use Rattle.mail.specs.Places.{cleared};
 ghost use Rattle.accepting.specs.Whole.{stored, answered};
-ghost use Rattle.attempts.specs.Asks.{Ready, Played};
+ghost use Rattle.attempts.specs.Needs.{Ready, Played};
 ghost use Rattle.engine.specs.Stepped.{Stepped};
 
 // An inner call: an event on a well-shaped state.

@@ -17,16 +17,16 @@ use Rattle.mail.specs.Rows.{messageOf}
 use Rattle.mail.specs.Places.{cleared}
 use Rattle.accepting.specs.declared.Answer.{Answer}
 use Rattle.accepting.specs.Whole.{stored, answered}
-use Rattle.attempts.specs.Asks.{Ready}
+use Rattle.attempts.specs.Needs.{Ready}
 use Rattle.engine.specs.Stepped.{Stepped}
 use Rattle.printing.specs.Printing.{stepLine, Printed}
 use Rattle.prelude.specs.declared.Player.{Player}
 use Rattle.prelude.specs.declared.Stage.the-variants.{Events}
 use Rattle.prelude.specs.Player.{counted, printedLine, onEvent}
-use Rattle.prelude.specs.Playing.{text, AtStage, Playing, Spoke}
+use Rattle.prelude.specs.Playing.{text, HoldsAt, Playing, Spoke}
 
 -- a state of a run is ready for an event
-pub ready : (p : Player) (held heir inquired queued rows : List (List ℕ)) → length rows ≡ messageLimit → AtStage Events p held heir inquired queued rows
+pub ready : (p : Player) (held heir inquired queued rows : List (List ℕ)) → length rows ≡ messageLimit → HoldsAt Events p held heir inquired queued rows
     → Ready (stored (p .rig) held heir inquired queued rows (p .count))
 ready p held heir inquired queued rows long fits = record { long = length-map rows messageOf ∙ long; few = run-few (fits .0); shaped = run-shaped (fits .0) }
 
@@ -35,7 +35,7 @@ played p r read place = record { stage = Events; line = read; step = place; size
 
 module _ (p : Player) (e : Event) (held heir inquired queued rows : List (List ℕ)) (r : Answer) (held′ heir′ inquired′ queued′ rows′ : List (List ℕ)) where
   pub plays : {page after : List ℕ} (n read place inside waiting : ℕ)
-      → AtStage Events p held heir inquired queued rows
+      → HoldsAt Events p held heir inquired queued rows
       → Stepped (stored (p .rig) held heir inquired queued rows (p .count)) e (answered r held′ heir′ inquired′ queued′ rows′) × (cleared (r .count) rows′ ≡ rows′)
       → length rows′ ≡ messageLimit
       → read ≡ counted (p .line) → place ≡ counted (p .step)

@@ -17,7 +17,7 @@ ghost use lib.ListN.{length};
 ghost use Rattle.rig.specs.Limits.{messageLimit};
 ghost use Rattle.prelude.specs.declared.Stage.the-variants.{Events};
 ghost use Rattle.prelude.specs.Player.{onEvent};
-ghost use Rattle.prelude.specs.Playing.{text, AtStage, Playing, Spoke};
+ghost use Rattle.prelude.specs.Playing.{text, HoldsAt, Playing, Spoke};
 
 // An inner call: one event of the text is played, and its line printed.
 pub fn play_event(
@@ -30,7 +30,7 @@ pub fn play_event(
     page: &mut Page,
     e: Event,
 ) -> Said
-    requires { ⌜ (length (now list) ≡ messageLimit) × AtStage Events p (now held) (now heir) (now inquired) (now queued) (now list) ⌝ }
+    requires { ⌜ (length (now list) ≡ messageLimit) × HoldsAt Events p (now held) (now heir) (now inquired) (now queued) (now list) ⌝ }
     ensures { λ r. ⌜ Spoke (onEvent (text p (now (held .entry)) (now (heir .entry)) (now (inquired .entry)) (now (queued .entry)) (now (list .entry))) (some e)) (text (r .player) (now (held .exit)) (now (heir .exit)) (now (inquired .exit)) (now (queued .exit)) (now (list .exit))) (now (page .entry)) (now (page .exit)) (r .printed) × Playing (r .player) (now (held .exit)) (now (heir .exit)) (now (inquired .exit)) (now (queued .exit)) (now (list .exit)) ⌝ }
 {
     let rig = p.rig;

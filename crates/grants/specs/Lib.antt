@@ -1,2 +1,2 @@
--- What the arbiter's calls ask of their caller.
-pub mod Asks
+-- What the arbiter's calls need of their caller.
+pub mod Needs

@@ -17,7 +17,7 @@ ghost use Rattle.rig.specs.Limits.{Listed};
 ghost use Rattle.rig.specs.Messages.{inquire, transfer};
 ghost use Rattle.model.specs.Arbiter.{heldBy, nextHeir, granted, grantedHead};
 ghost use Rattle.mail.specs.Did.{Did, Sent};
-ghost use Rattle.grants.specs.Asks.{Room};
+ghost use Rattle.grants.specs.Needs.{Room};
 
 // The permission is held by k, with grant number g; it asked with sequence number n.
 pub fn held_by(d: Desk, g: u64, k: u64, n: u64) -> Desk

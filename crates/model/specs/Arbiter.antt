@@ -109,7 +109,7 @@ inquireIfBefore d h = cond (comesBefore (siteKey d h) (holderKey d)) (inquireOf 
 unfoldable pub headNamed : Desk → List Message
 headNamed d = cond (eqb (headOf d) 0) [] (transferOf d (headOf d) ∷ inquireIfBefore d (headOf d))
 
--- "with a queued heir, the heir leaves the queue, g + 1, the heir is holder, and ..."
+-- "with a queued heir, the heir leaves the queue, g + 1, the heir is holder, and ...": with the sequence number that was queued
 unfoldable pub heirTakesOver : Desk → ℕ → Effect
 heirTakesOver d x = let u = heldBy d (grantOf d + 1) x (queuedAt d x) (without d x) in effect u (headNamed u)
 

@@ -65,6 +65,6 @@ abbrev pub withoutEntry : Desk → ℕ → Desk
 withoutEntry d j = withEntries d (put (d .held) j 0) (put (d .heir) j 0) (put (d .inquired) j 0)
 
 -- "held, heirs and remembered inquires are cleared", "All three entries of every member, held or not, are cleared": all of them,
--- since the entries of the other sites are 0
+-- since the entries for non-members are 0 in a well-shaped state
 abbrev pub withoutEntries : Desk → Desk
 withoutEntries d = withEntries d blankRow blankRow blankRow

@@ -1,3 +1,4 @@
+-- Document 01 as definitions: the state, the rules, one event, a run, and what holds of every run.
 pub mod Tables
 pub mod Sets
 pub mod Setup

@@ -66,13 +66,15 @@ waitingCount t = count (λ k. isWaiting (modeOf t k)) (sizeOf t)
 unfoldable pub stuck : Stored → Bool
 stuck s = eqb (s .count) 0 && (eqb (insideCount (s .tables)) 0 && not (eqb (waitingCount (s .tables)) 0))
 
--- Demand 3 of a state: "at most one site inside, each arbiter's permission in exactly one place, and no stuck rig"
+-- Demand 3 of a state, in the words of the demand itself, which stands beside document 01: "at most one site inside, each arbiter's
+-- permission in exactly one place, and no stuck rig"
 pub record Sound (s : Stored) : Type 0 where
   pub exclusion : insideCount (s .tables) ≤ 1
   pub onePlace : (j : ℕ) → 1 ≤ j → j ≤ sizeOf (s .tables) → places s j ≡ 1
   pub notStuck : stuck s ≡ Bool.false
 
--- Demand 3: "For EVERY family that setup passes and EVERY list of asks, leaves and deliveries, refused ones included", "A run without
--- events counts too." The lent list is any list: where it is not 1,024 entries long, every event is refused with 13.
+-- Demand 3, in its own words: "For EVERY family that setup passes and EVERY list of asks, leaves and deliveries, refused ones included";
+-- in those of document 01: "A run without events counts too." The lent list is any list: where it is not 1,024 entries long, every event
+-- is refused with 13.
 unfoldable pub Demand3 : Type 0
 Demand3 = Always Sound

@@ -59,7 +59,7 @@ restingRig n sets = record {
   accepted = 0;
 }
 
--- "Fresh: all but N and the sets zero, at rest, nothing under way."
+-- "Fresh: all but N and the sets zero, at rest": of the rig
 unfoldable pub freshRig : ℕ → List ℕ → Rig
 freshRig n sets = restingRig n (keptSets n sets)
 

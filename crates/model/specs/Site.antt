@@ -68,13 +68,13 @@ onInquire d j n = cond (waits d) (yieldedOrRemembered d j n) (effect d [])
 unfoldable pub mustYield : Desk → ℕ → Bool
 mustYield d j = has d j && (not (eqb (heldFor d j) 0) && not (eqb (inquiredFor d j) 0))
 
--- "is yielded", if it is
+-- "is yielded": member j, if it is such a one
 unfoldable pub yieldedIf : Desk → ℕ → Effect
 yieldedIf d j = cond (mustYield d j) (yielded d j) (effect d [])
 
 -- one effect after another
 abbrev pub andThen : Effect → Effect → Effect
-andThen d e = effect (e .desk) (d .sent ++ e .sent)
+andThen e f = effect (f .desk) (e .sent ++ f .sent)
 
 -- "ascending": of the sites 1 to n
 unfoldable pub yieldedUpTo : Desk → ℕ → Effect
@@ -85,10 +85,11 @@ yieldedUpTo d (suc i) = let e = yieldedUpTo d i in andThen e (yieldedIf (e .desk
 unfoldable pub onFail : Desk → Effect
 onFail d = cond (waits d) (yieldedUpTo (failedSet d) (d .size)) (effect d [])
 
--- "Transfer from j whose number the site holds for j: the heir of j becomes the named site, in place of any older one."
+-- "whose number the site holds for j": n is at least 1 in a well-shaped message, so that j is then held
 abbrev pub namesHeld : Desk → ℕ → ℕ → Bool
 namesHeld d j n = eqb n (heldFor d j)
 
+-- "Transfer from j whose number the site holds for j: the heir of j becomes the named site, in place of any older one."
 unfoldable pub onTransfer : Desk → ℕ → ℕ → ℕ → Effect
 onTransfer d j x n =
     cond (namesHeld d j n) (effect (withEntries d (d .held) (put (d .heir) j x) (d .inquired)) []) (effect d [])

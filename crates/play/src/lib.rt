@@ -19,7 +19,7 @@ ghost use lib.ListN.{length};
 ghost use Rattle.rig.specs.Limits.{messageLimit};
 ghost use Rattle.prelude.specs.declared.Stage.the-variants.{Events};
 ghost use Rattle.prelude.specs.Player.{eventIn, onEvent, onLine};
-ghost use Rattle.prelude.specs.Playing.{text, AtStage, Playing, Spoke, Ended};
+ghost use Rattle.prelude.specs.Playing.{text, HoldsAt, Playing, Spoke, Ended};
 
 // A line behind the sets.
 fn on_event(
@@ -32,7 +32,7 @@ fn on_event(
     page: &mut Page,
     m: Line,
 ) -> Said
-    requires { ⌜ (length (now list) ≡ messageLimit) × AtStage Events p (now held) (now heir) (now inquired) (now queued) (now list) ⌝ }
+    requires { ⌜ (length (now list) ≡ messageLimit) × HoldsAt Events p (now held) (now heir) (now inquired) (now queued) (now list) ⌝ }
     ensures { λ r. ⌜ Spoke (onEvent (text p (now (held .entry)) (now (heir .entry)) (now (inquired .entry)) (now (queued .entry)) (now (list .entry))) (eventIn m)) (text (r .player) (now (held .exit)) (now (heir .exit)) (now (inquired .exit)) (now (queued .exit)) (now (list .exit))) (now (page .entry)) (now (page .exit)) (r .printed) × Playing (r .player) (now (held .exit)) (now (heir .exit)) (now (inquired .exit)) (now (queued .exit)) (now (list .exit)) ⌝ }
 {
     match m {

@@ -33,17 +33,17 @@ pub record Untouched (held heir inquired queued rows : List (List ℕ)) : Type 0
   pub noneUnderWay : cleared 0 rows ≡ rows
 
 -- what holds at each stage: N and the sets still to come; a state of a run
-abbrev pub AtStage : Stage → Player → List (List ℕ) → List (List ℕ) → List (List ℕ) → List (List ℕ) → List (List ℕ) → Type 0
-AtStage Size p held heir inquired queued rows = Untouched held heir inquired queued rows
-AtStage Sets p held heir inquired queued rows = Untouched held heir inquired queued rows × (p .size ≤ siteLimit) × (p .given < p .size)
-AtStage Events p held heir inquired queued rows =
+abbrev pub HoldsAt : Stage → Player → List (List ℕ) → List (List ℕ) → List (List ℕ) → List (List ℕ) → List (List ℕ) → Type 0
+HoldsAt Size p held heir inquired queued rows = Untouched held heir inquired queued rows
+HoldsAt Sets p held heir inquired queued rows = Untouched held heir inquired queued rows × (p .size ≤ siteLimit) × (p .given < p .size)
+HoldsAt Events p held heir inquired queued rows =
     OfRun (stored (p .rig) held heir inquired queued rows (p .count)) × (cleared (p .count) rows ≡ rows)
-AtStage Over p held heir inquired queued rows = Unit
+HoldsAt Over p held heir inquired queued rows = Unit
 
 -- the player and what it is lent belong together, as its first call and every later one leave them
 pub record Playing (p : Player) (held heir inquired queued rows : List (List ℕ)) : Type 0 where
   pub long : length rows ≡ messageLimit
-  pub fits : AtStage (p .stage) p held heir inquired queued rows
+  pub fits : HoldsAt (p .stage) p held heir inquired queued rows
 
 -- the player before its first line, and once the run has ended
 abbrev pub beginning : Player
@@ -61,7 +61,7 @@ pub record Spoke (o : Outcome) (next : Text) (page after : List ℕ) (n : ℕ) :
 abbrev pub Head : Stage → (Text → Outcome) → Player → List ℕ → List ℕ → Said → Type 0
 Head stage f p page after r =
     (held heir inquired queued rows : List (List ℕ)) →
-    length rows ≡ messageLimit → AtStage stage p held heir inquired queued rows →
+    length rows ≡ messageLimit → HoldsAt stage p held heir inquired queued rows →
     Spoke (f (text p held heir inquired queued rows)) (text (r .player) held heir inquired queued rows) page after (r .printed)
     × Playing (r .player) held heir inquired queued rows
 

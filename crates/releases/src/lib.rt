@@ -17,7 +17,7 @@ ghost use Prim.Native.Nat.{_+_, _^_, _≤_, _<_};
 ghost use Rattle.rig.specs.Limits.{siteLimit, Listed};
 ghost use Rattle.model.specs.Arbiter.{headNamed, heirTakesOver, holderReleases, fromHolder, isEarly, earlyRelease, onRelease, onYield};
 ghost use Rattle.mail.specs.Did.{Did, Sent};
-ghost use Rattle.grants.specs.Asks.{Room};
+ghost use Rattle.grants.specs.Needs.{Room};
 
 // If the queue isn't empty, a transfer that names the head goes to the holder, then an inquire if the head comes before it.
 fn head_named(d: Desk, out: &mut [Row], count: usize) -> usize

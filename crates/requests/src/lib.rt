@@ -17,7 +17,7 @@ ghost use Prim.Native.Nat.{_≤_};
 ghost use Rattle.rig.specs.Limits.{siteLimit, Listed};
 ghost use Rattle.model.specs.Arbiter.{clockRaised, failFormer, inquireOrFail, answers, queuedUp, onRequest};
 ghost use Rattle.mail.specs.Did.{Did, Sent};
-ghost use Rattle.grants.specs.Asks.{Room};
+ghost use Rattle.grants.specs.Needs.{Room};
 
 // The site's clock becomes the larger of itself and n.
 fn clock_raised(d: Desk, n: u64) -> Desk

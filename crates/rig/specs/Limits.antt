@@ -24,9 +24,10 @@ eventLimit = 1_000_000
 abbrev pub numberLimit : ℕ
 numberLimit = 2_000_000
 
--- "Fresh: all but N and the sets zero": a table of a row for each site or arbiter.
+-- a row of a table: an entry for each site or arbiter
 abbrev pub blankRow : List ℕ
 blankRow = replicate siteLimit 0
 
+-- "Fresh: all but N and the sets zero": a table has a row for each site or arbiter
 abbrev pub blankTable : List (List ℕ)
 blankTable = replicate siteLimit blankRow

@@ -35,6 +35,7 @@ pub struct Rig {
 // All that one site has: the number of sites N, its own number and request set, itself as a site and as an arbiter, its entries
 // for each arbiter (the grant number held, the heir, the remembered inquire's number; 0 none), and the sequence number queued of
 // each site (0 none). What a site does depends on this and on the message it gets, and on nothing else.
+// In document 01 a "desk" is a whole console; here it is one site's part of the tables.
 pub struct Desk {
     pub size: u64,
     pub number: u64,
@@ -75,7 +76,7 @@ impl Rig {
 
     pub const NUMBERS: u64 = 2_000_000;
 
-    // A table in which nothing is held, inherited, inquired or queued.
+    // A table in which nothing is held, named as heir, inquired or queued.
     pub fn blank() -> Table
         ensures { λ r. ⌜ r ≡ blankTable ⌝ }
     {

@@ -1,4 +1,4 @@
--- What a delivery asks of its caller.
+-- What a delivery needs of its caller.
 use Prim.Native.Nat.{ℕ, _+_, _≤_}
 use mathlib.Core.Path.{_≡_}
 use mathlib.Core.List.{List}

@@ -1,4 +1,4 @@
--- What the inner calls ask of their callers, and what they promise.
+-- What the inner calls need of their callers, and what they promise.
 use Prim.Native.Nat.{ℕ, _≤_}
 use mathlib.Core.Path.{_≡_}
 use mathlib.Core.Bool.{true}

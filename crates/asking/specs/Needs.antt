@@ -1,4 +1,4 @@
--- What the calls on one site's desk ask of their callers.
+-- What an ask and a leave need of their callers.
 use Prim.Native.Nat.{ℕ, _+_, _*_, _≤_}
 use mathlib.Core.List.{List}
 use lib.ListN.{length}
@@ -6,13 +6,14 @@ use Rattle.rig.specs.declared.Desk.{Desk}
 use Rattle.rig.specs.Limits.{siteLimit, numberLimit}
 use Rattle.model.specs.Desk.{heldFor}
 
--- an ask: at most 31 sites, 1 more on the clock does not overflow, and room for 31 messages behind the first n
+-- an ask: no more sites than the limit, 1 more on the clock does not overflow, and room for a message to each site behind the first n
 pub record AskFits (d : Desk) (n : ℕ) (rows : List (List ℕ)) : Type 0 where
   pub size : d .size ≤ siteLimit
   pub clock : d .site .clock ≤ numberLimit
   pub room : n + siteLimit ≤ length rows
 
--- a leave: at most 31 sites, 1 more on a number held does not overflow, and room for 62 messages behind the first n
+-- a leave: no more sites than the limit, 1 more on a number held does not overflow, and room for two messages to each site behind the
+-- first n
 pub record LeaveFits (d : Desk) (n : ℕ) (rows : List (List ℕ)) : Type 0 where
   pub size : d .size ≤ siteLimit
   pub held : (j : ℕ) → 1 ≤ j → j ≤ siteLimit → heldFor d j ≤ numberLimit

@@ -1,4 +1,4 @@
--- What the inner calls of this crate ask of their caller.
+-- What the inner calls of this crate need of their caller.
 use Prim.Native.Nat.{ℕ, _+_, _^_, _≤_, _<_}
 use mathlib.Core.List.{List}
 use lib.ListN.{length}
