@@ -1,2 +1,3 @@
 -- Laws of the lists.
 pub mod Search
+pub mod Walks
