@@ -2,52 +2,18 @@
 // site, and messages go to `out`, behind the first `count` rows.
 use grants::grant_head;
 use grants::held_by;
-use grants::inquire_of;
-use grants::transfer_of;
+use heirs::heir_takes_over;
 use mail::Acted;
 use mail::Row;
-use mail::append;
-use queue::before_holder;
-use queue::head;
 use queue::queued_at;
 use queue::requeued;
 use rig::Desk;
 ghost use mathlib.Core.Path.{_≡_};
 ghost use Prim.Native.Nat.{_+_, _^_, _≤_, _<_};
 ghost use Rattle.rig.specs.Limits.{siteLimit, Listed};
-ghost use Rattle.model.specs.Arbiter.{headNamed, heirTakesOver, holderReleases, fromHolder, isEarly, earlyRelease, onRelease, onYield};
-ghost use Rattle.mail.specs.Did.{Did, Sent};
+ghost use Rattle.model.specs.Arbiter.{holderReleases, fromHolder, isEarly, earlyRelease, onRelease, onYield};
+ghost use Rattle.mail.specs.Did.{Did};
 ghost use Rattle.grants.specs.Needs.{Room};
-
-// If the queue isn't empty, a transfer that names the head goes to the holder, then an inquire if the head comes before it.
-fn head_named(d: Desk, out: &mut [Row], count: usize) -> usize
-    requires { ⌜ Room d 0 2 count (now out) ⌝ }
-    ensures { λ r. ⌜ Sent (headNamed d) count (now (out .entry)) (now (out .exit)) r ⌝ }
-{
-    let h = head(&d.queued, d.size);
-    if h == 0 {
-        return count;
-    }
-    let named = append(out, count, transfer_of(d.number, d.arbiter, h));
-    if !before_holder(&d.queued, d.arbiter, h) {
-        return named;
-    }
-    append(out, named, inquire_of(d.number, d.arbiter))
-}
-
-// Queued site x, the heir of the holder, which has released, holds the permission now.
-fn heir_takes_over(d: Desk, out: &mut [Row], count: usize, x: u64) -> Acted
-    requires { ⌜ Room d 1 2 count (now out) × Listed x ⌝ }
-    ensures { λ r. ⌜ Did (heirTakesOver d x) count (now (out .entry)) (now (out .exit)) r ⌝ }
-{
-    let n = queued_at(&d.queued, x);
-    let u = held_by(requeued(d, x, 0), d.arbiter.grant + 1, x, n);
-    let sent = head_named(u, out, count);
-    Acted {
-        desk: u,
-        count: sent,
-    }
-}
 
 // The release of the holder; x is the heir that it names, 0 none.
 fn holder_releases(d: Desk, out: &mut [Row], count: usize, x: u64) -> Acted

@@ -5,8 +5,8 @@ use borrow.Author.Needs.{needs}
 use Rattle.model.specs.Arbiter.{headOf, inquireIfBefore, headNamed}
 use Rattle.queue.proofs.Heads.{head-listed}
 use Rattle.mail.proofs.Sending.{sent-none, sent-one, sent-more}
-use Rattle.releases.proofs.head_named.Statement.{statement}
-use Rattle.releases.proofs.head_named.Tie as tie
+use Rattle.heirs.proofs.head_named.Statement.{statement}
+use Rattle.heirs.proofs.head_named.Tie as tie
 
 head-requires : tie.Need-head-requires
 head-requires c κs = search needs

@@ -3,8 +3,8 @@ use native.Mathlib.Omega.{arith}
 use borrow.Author.Needs.{needs}
 use Rattle.model.specs.Arbiter.{heirTakesOver}
 use Rattle.mail.proofs.Sending.{did-sent}
-use Rattle.releases.proofs.heir_takes_over.Statement.{statement}
-use Rattle.releases.proofs.heir_takes_over.Tie as tie
+use Rattle.heirs.proofs.heir_takes_over.Statement.{statement}
+use Rattle.heirs.proofs.heir_takes_over.Tie as tie
 
 queued-at-requires : tie.Need-queued-at-requires
 queued-at-requires c κs = search needs
