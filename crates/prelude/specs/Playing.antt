@@ -58,8 +58,8 @@ pub record Spoke (o : Outcome) (next : Text) (page after : List ℕ) (n : ℕ) :
   pub printed : Printed (o .said) page after n
 
 -- What a line does before the first event, when no table is touched: the outcome f, for whatever tables the player is lent at that stage.
-abbrev pub Head : Stage → (Text → Outcome) → Player → List ℕ → List ℕ → Said → Type 0
-Head stage f p page after r =
+abbrev pub BeforeEvents : Stage → (Text → Outcome) → Player → List ℕ → List ℕ → Said → Type 0
+BeforeEvents stage f p page after r =
     (held heir inquired queued rows : List (List ℕ)) →
     length rows ≡ messageLimit → HoldsAt stage p held heir inquired queued rows →
     Spoke (f (text p held heir inquired queued rows)) (text (r .player) held heir inquired queued rows) page after (r .printed)

@@ -12,7 +12,7 @@ ghost use Rattle.rig.specs.Limits.{siteLimit};
 ghost use Rattle.printing.specs.Printing.{stopLine, Printed};
 ghost use Rattle.prelude.specs.declared.Stage.the-variants.{Size, Sets};
 ghost use Rattle.prelude.specs.Player.{counted, sizeIn, setIn, onSize, allGiven, onSet};
-ghost use Rattle.prelude.specs.Playing.{beginning, over, Head};
+ghost use Rattle.prelude.specs.Playing.{beginning, over, BeforeEvents};
 
 // Which line comes next: `sites=`, a `set=`, an event, or none, since the run has ended.
 pub enum Stage {
@@ -89,7 +89,7 @@ pub fn stop(p: Player, page: &mut Page, code: u64, line: u64) -> Said
 
 // The first line.
 pub fn on_size(p: Player, page: &mut Page, m: Line) -> Said
-    ensures { λ r. ⌜ Head Size (λ t. onSize t (sizeIn m)) p (now (page .entry)) (now (page .exit)) r ⌝ }
+    ensures { λ r. ⌜ BeforeEvents Size (λ t. onSize t (sizeIn m)) p (now (page .entry)) (now (page .exit)) r ⌝ }
 {
     let place = one_more(p.line);
     let Line::Sites(n) = m else {
@@ -122,7 +122,7 @@ pub fn on_size(p: Player, page: &mut Page, m: Line) -> Said
 // An inner call: all sets are there. The run begins, or ends with 2 or 3.
 fn all_given(p: Player, page: &mut Page, sets: [u64; Rig::SITES]) -> Said
     requires { ⌜ p .size ≤ siteLimit ⌝ }
-    ensures { λ r. ⌜ Head Sets (λ t. allGiven t sets) p (now (page .entry)) (now (page .exit)) r ⌝ }
+    ensures { λ r. ⌜ BeforeEvents Sets (λ t. allGiven t sets) p (now (page .entry)) (now (page .exit)) r ⌝ }
 {
     let made = setup(p.size, &sets);
     if made.code != 0 {
@@ -149,7 +149,7 @@ fn all_given(p: Player, page: &mut Page, sets: [u64; Rig::SITES]) -> Said
 // An inner call: one of the N lines behind the first.
 pub fn on_set(p: Player, page: &mut Page, m: Line) -> Said
     requires { ⌜ (p .size ≤ siteLimit) × (p .given < p .size) ⌝ }
-    ensures { λ r. ⌜ Head Sets (λ t. onSet t (setIn m)) p (now (page .entry)) (now (page .exit)) r ⌝ }
+    ensures { λ r. ⌜ BeforeEvents Sets (λ t. onSet t (setIn m)) p (now (page .entry)) (now (page .exit)) r ⌝ }
 {
     let place = one_more(p.line);
     let Line::Set(set) = m else {
