@@ -21,7 +21,7 @@ use Rattle.accepting.specs.declared.Answer.{Answer}
 use Rattle.accepting.specs.Whole.{stored, answered}
 use Rattle.message_list.specs.First.{firstIn}
 use Rattle.boundary_parts.specs.Parts.{senderOf, receiverOf, readOf, blankRows, judgedRows, changedFrom}
-use Rattle.boundary.specs.Lent.{lent, left}
+use Rattle.boundary.specs.Lent.{lent, lentAnswer}
 use Rattle.boundary.proofs.Lent.{relisted, read-rows, from-fits, from-long, composed}
 
 -- no message past the list's end is read, and none past the 1,024th
@@ -76,5 +76,5 @@ module _ (g : Rig) (held heir inquired queued : List (List ℕ)) (ys : List Mess
     rewritten a = relisted (paste ys (start (a .code)) (drop (start (a .code)) (a .next .list)) (length ys - start (a .code))) a
 
     pub joined : (zs : List Message) → zs ≡ paste ys (start (r .code)) (drop (start (r .code)) (map messageOf after)) (length ys - start (r .code))
-        → left r held′ heir′ inquired′ queued′ zs ≡ M.event (lent g held heir inquired queued ys n) e
-    joined zs h = ap (left r held′ heir′ inquired′ queued′) h ∙ ap rewritten said ∙ composed (tables g held heir inquired queued) ys (map messageOf before) n e long same
+        → lentAnswer r held′ heir′ inquired′ queued′ zs ≡ M.event (lent g held heir inquired queued ys n) e
+    joined zs h = ap (lentAnswer r held′ heir′ inquired′ queued′) h ∙ ap rewritten said ∙ composed (tables g held heir inquired queued) ys (map messageOf before) n e long same

@@ -12,5 +12,5 @@ abbrev pub lent : Rig → List (List ℕ) → List (List ℕ) → List (List ℕ
 lent g held heir inquired queued list n = record { tables = tables g held heir inquired queued; list = list; count = n }
 
 -- what a call answered, with the tables and the list that it left
-abbrev pub left : Answer → List (List ℕ) → List (List ℕ) → List (List ℕ) → List (List ℕ) → List Message → M.Answer
-left r held heir inquired queued list = record { code = r .code; next = lent (r .rig) held heir inquired queued list (r .count) }
+abbrev pub lentAnswer : Answer → List (List ℕ) → List (List ℕ) → List (List ℕ) → List (List ℕ) → List Message → M.Answer
+lentAnswer r held heir inquired queued list = record { code = r .code; next = lent (r .rig) held heir inquired queued list (r .count) }

@@ -15,7 +15,7 @@ use rig::Rig;
 use rig::Table;
 ghost use mathlib.Core.Path.{_≡_};
 ghost use Rattle.model.specs.Event.{event};
-ghost use Rattle.boundary.specs.Lent.{lent, left};
+ghost use Rattle.boundary.specs.Lent.{lent, lentAnswer};
 
 // One event, on any state at all: the code of document 01, and the next state.
 pub fn event(
@@ -28,7 +28,7 @@ pub fn event(
     count: usize,
     e: Event,
 ) -> Answer
-    ensures { λ r. ⌜ left r (now (held .exit)) (now (heir .exit)) (now (inquired .exit)) (now (queued .exit)) (now (list .exit)) ≡ event (lent rig (now (held .entry)) (now (heir .entry)) (now (inquired .entry)) (now (queued .entry)) (now (list .entry)) count) e ⌝ }
+    ensures { λ r. ⌜ lentAnswer r (now (held .exit)) (now (heir .exit)) (now (inquired .exit)) (now (queued .exit)) (now (list .exit)) ≡ event (lent rig (now (held .entry)) (now (heir .entry)) (now (inquired .entry)) (now (queued .entry)) (now (list .entry)) count) e ⌝ }
 {
     let len = list.len();
     let n = read(count, len);

@@ -63,7 +63,7 @@ use Rattle.mail.specs.Rows.{rowOf, messageOf}
 use Rattle.accepting.specs.Whole.{stored, answered}
 use Rattle.message_list.specs.First.{firstIn}
 use Rattle.boundary_parts.specs.Parts.{senderOf, receiverOf, readOf, blankRows, judgedRows, changedFrom}
-use Rattle.boundary.specs.Lent.{lent, left}
+use Rattle.boundary.specs.Lent.{lent, lentAnswer}
 use Rattle.boundary.proofs.Joined.{read-in, read-few, from-in, from-full, joined}
 use Rattle.rig.proofs.Rig as G
 use Rattle.rig.proofs.Rig.Laws as G′
@@ -240,7 +240,7 @@ module _ {M : Type 1} (𝓤 : URA M) (H : Heap 𝓤) (A : Atoms 𝓤) (W : Given
   abbrev Says : Answer → List (List ℕ) → List (List ℕ) → List (List ℕ) → List (List ℕ) → List (List ℕ) → List (List ℕ) → Type 0
   Says r h₀ h₁ h₂ h₃ after before = answered r h₀ h₁ h₂ h₃ after ≡ judgedRows (length ys) (stored g (t₀ .now) (t₁ .now) (t₂ .now) (t₃ .now) before n) e
 
-  exits : (r : Answer) (h₀ h₁ h₂ h₃ : List (List ℕ)) (zs : List Message) → length zs ≡ length ys → left r h₀ h₁ h₂ h₃ zs ≡ Model.event (lent g (t₀ .now) (t₁ .now) (t₂ .now) (t₃ .now) ys n) e → Is K.the-row r (answer-vals r)
+  exits : (r : Answer) (h₀ h₁ h₂ h₃ : List (List ℕ)) (zs : List Message) → length zs ≡ length ys → lentAnswer r h₀ h₁ h₂ h₃ zs ≡ Model.event (lent g (t₀ .now) (t₁ .now) (t₂ .now) (t₃ .now) ys n) e → Is K.the-row r (answer-vals r)
       → ent 𝓤 (⋆ 𝓤 H A (‵ (flft κ₀ q₀) ∷ ‵ (flft κ₁ q₁) ∷ ‵ (flft κ₂ q₂) ∷ ‵ (flft κ₃ q₃) ∷ ‵ (flft κ₄ q₄) ∷ ‵ (fres (t₀ .name) (Tab .coded .code h₀)) ∷ ‵ (fres (t₁ .name) (Tab .coded .code h₁)) ∷ ‵ (fres (t₂ .name) (Tab .coded .code h₂)) ∷ ‵ (fres (t₃ .name) (Tab .coded .code h₃)) ∷ ‵ (finally T.the-row γ zs) ∷ [])) (Post (only (answer-vals r)))
   exits r h₀ h₁ h₂ h₃ zs l said gr =
       qed W (‵ (flft κ₀ q₀) ∷ ‵ (flft κ₁ q₁) ∷ ‵ (flft κ₂ q₂) ∷ ‵ (flft κ₃ q₃) ∷ ‵ (flft κ₄ q₄) ∷ ‵ (fres (t₀ .name) (Tab .coded .code h₀)) ∷ ‵ (fres (t₁ .name) (Tab .coded .code h₁)) ∷ ‵ (fres (t₂ .name) (Tab .coded .code h₂)) ∷ ‵ (fres (t₃ .name) (Tab .coded .code h₃)) ∷ ‵ (finally T.the-row γ zs) ∷ []) ∵
