@@ -3,7 +3,7 @@ use accepting::Answer;
 use boundary_parts::blank_rows;
 use boundary_parts::changed_from;
 use boundary_parts::on_rows;
-use boundary_parts::read;
+use boundary_parts::read_count;
 use boundary_parts::receiver;
 use boundary_parts::sender;
 use message_list::first;
@@ -31,7 +31,7 @@ pub fn event(
     ensures { λ r. ⌜ lentAnswer r (now (held .exit)) (now (heir .exit)) (now (inquired .exit)) (now (queued .exit)) (now (list .exit)) ≡ event (lent rig (now (held .entry)) (now (heir .entry)) (now (inquired .entry)) (now (queued .entry)) (now (list .entry)) count) e ⌝ }
 {
     let len = list.len();
-    let n = read(count, len);
+    let n = read_count(count, len);
     let found = first(list, n, sender(e), receiver(e));
     let mut rows = blank_rows();
     to_rows(list, n, &mut rows);

@@ -34,7 +34,7 @@ pub fn receiver(e: Event) -> u64
 }
 
 // How many messages are read: none where 13 or 10 turns the list or its count down.
-pub fn read(count: usize, len: usize) -> usize
+pub fn read_count(count: usize, len: usize) -> usize
     ensures { λ r. ⌜ r ≡ readOf count len ⌝ }
 {
     if len != Rig::MESSAGES {

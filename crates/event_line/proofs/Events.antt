@@ -7,7 +7,6 @@ use lib.ListN.{length, length-map}
 use Rattle.rig.specs.declared.Event.{Event}
 use Rattle.rig.specs.Limits.{messageLimit}
 use Rattle.model.specs.State.{tables}
-use Rattle.model.specs.Event as M
 use Rattle.model.specs.Run.{waitingCount}
 use Rattle.model.specs.Printed.{insideUpTo, lineOf}
 use Rattle.model.proofs.OfRun.{run-few, run-shaped}

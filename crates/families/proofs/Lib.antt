@@ -4,4 +4,3 @@ pub mod Parameters
 pub mod Accepted
 pub mod Codes
 pub mod Members
-pub mod GridMeets

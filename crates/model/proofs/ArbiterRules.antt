@@ -156,7 +156,7 @@ module _ (l : P.Local) (mem : ℕ → Bool) where
         (λ f. rw (e, add-one, f) (grantedHead-from (free d (suc (grantOf d)) (without d k)) (length-put (d .queued) k 0 ∙ long) size _ (rw q)))
         (λ f. rw (e, add-one, f) (nothing d)))
 
-    -- a hand-over has the next grant number
+    -- a hand-over has the next grant number: named, so that the edit `hand_over_keeps_grant` is refused by it
     takesOver-grant : (x : ℕ) → heirTakesOver d x .desk .arbiter .grant ≡ suc (grantOf d)
     unfolding heirTakesOver
     takesOver-grant x = omega arith

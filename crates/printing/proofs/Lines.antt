@@ -4,10 +4,9 @@ use mathlib.Core.List.{List, _++_}
 use mathlib.Core.Path.{_≡_, sym, ap, _∙_}
 use native.Mathlib.Nat.{zero-add}
 use native.Mathlib.Omega.{arith}
-use lib.ListN.{length, take, drop, length-append, length-take}
+use lib.ListN.{length, take, drop, length-take}
 use lib.Seq.{length-sets, sets-eq, take-append-seam, drop-append-seam}
-use Rattle.printing.specs.Printing.{stepLine, stopLine, Printed}
-use Rattle.printing.proofs.Digits.{decimal-length}
+use Rattle.printing.specs.Printing.{Printed}
 use Rattle.printing.specs.Wrote.{Wrote}
 
 module _ {line page after : List ℕ} {r : ℕ} where
@@ -23,14 +22,3 @@ module _ {line page after : List ℕ} {r : ℕ} where
   printed-part p =
       let e : r ≡ length (take r after) = p .count ∙ ap length (sym (p .text)) in
       (omega (arith, length-take r after), e)
-
--- for callers: how long a line is at most
-pub step-line-length : (step code inside waiting flying : ℕ) → length (stepLine step code inside waiting flying) ≤ 137
-unfolding stepLine
-step-line-length step code inside waiting flying =
-    simp length-append
-    (omega (arith, decimal-length step, decimal-length code, decimal-length inside, decimal-length waiting, decimal-length flying))
-
-pub stop-line-length : (code line : ℕ) → length (stopLine code line) ≤ 52
-unfolding stopLine
-stop-line-length code line = simp length-append (omega (arith, decimal-length code, decimal-length line))

@@ -74,10 +74,10 @@ use Rattle.mail.proofs.Found as F
 use Rattle.mail.proofs.Found.Laws as F′
 use Rattle.accepting.proofs.Answer as K
 use Rattle.accepting.proofs.Answer.Laws as K′
-use Rattle.boundary_parts.proofs.read as read′
-use Rattle.boundary_parts.proofs.read.Symbol as read-def
-use Rattle.boundary_parts.proofs.read.Symbol.{name as #boundary-parts·read}
-use Rattle.boundary_parts.proofs.read.Met as read-thm
+use Rattle.boundary_parts.proofs.read_count as read-count
+use Rattle.boundary_parts.proofs.read_count.Symbol as read-count-def
+use Rattle.boundary_parts.proofs.read_count.Symbol.{name as #boundary-parts·read-count}
+use Rattle.boundary_parts.proofs.read_count.Met as read-count-thm
 use Rattle.boundary_parts.proofs.sender as sender′
 use Rattle.boundary_parts.proofs.sender.Symbol as sender-def
 use Rattle.boundary_parts.proofs.sender.Symbol.{name as #boundary-parts·sender}
@@ -178,8 +178,8 @@ module _ {M : Type 1} (𝓤 : URA M) (H : Heap 𝓤) (A : Atoms 𝓤) (W : Given
 
 module _ {M : Type 1} (𝓤 : URA M) (H : Heap 𝓤) (A : Atoms 𝓤) (mem′ : Memory → SProp 𝓤) (run : Routine → Fun 𝓤) where
   -- the contracts that the proof cites
-  abbrev Read : Contract 𝓤
-  Read = tripleOf 𝓤 H A read′.signature (read′.spec 𝓤 H A mem′ run)
+  abbrev ReadCount : Contract 𝓤
+  ReadCount = tripleOf 𝓤 H A read-count.signature (read-count.spec 𝓤 H A mem′ run)
 
   abbrev Sender : Contract 𝓤
   Sender = tripleOf 𝓤 H A sender′.signature (sender′.spec 𝓤 H A mem′ run)
@@ -250,14 +250,14 @@ module _ {M : Type 1} (𝓤 : URA M) (H : Heap 𝓤) (A : Atoms 𝓤) (W : Given
       owned ! K.the-row (Is K.the-row) (LL.makes K.the-type K′.the-plain 𝓤 H A) r _ gr $ done !
 
   -- ---- what each callee is passed, and that it is had; and of what it ensures, the clause alone
-  abbrev to-read : Read 𝓤 H A mem′ run .Ghost
+  abbrev to-read : ReadCount 𝓤 H A mem′ run .Ghost
   to-read = ((tt, tt, tt, (n, (length ys, tt)), (vint w64 n ∷ [], (vint w64 (length ys) ∷ [], tt))), tt)
 
-  goes-read : ent 𝓤 (emp 𝓤) (Read 𝓤 H A mem′ run .pre to-read)
+  goes-read : ent 𝓤 (emp 𝓤) (ReadCount 𝓤 H A mem′ run .pre to-read)
   goes-read = qed W [] ∵ nothing ! $ owned ! usize (Is usize) (uint-makes 𝓤 H A W w64) (length ys) _ (refl, room .0) $ fjoin ! $ owned ! usize (Is usize) (uint-makes 𝓤 H A W w64) n _ (refl, gn) $ fjoin ! $ nothing ! $ join ! $ frame ! $ done !
 
-  said-read : (r : ℕ) → ent 𝓤 (ensured 𝓤 H A read′.ended (read′.clauses 𝓤 H A mem′ run) tt (n, (length ys, tt)) tt r) (fact 𝓤 (r ≡ k))
-  said-read r = exE 𝓤 _ (λ ws. snd∗ 𝓤 (sem 𝓤 H A (lasts read′.ended tt (n, (length ys, tt)) ws)) (fact 𝓤 (r ≡ k)))
+  said-read : (r : ℕ) → ent 𝓤 (ensured 𝓤 H A read-count.ended (read-count.clauses 𝓤 H A mem′ run) tt (n, (length ys, tt)) tt r) (fact 𝓤 (r ≡ k))
+  said-read r = exE 𝓤 _ (λ ws. snd∗ 𝓤 (sem 𝓤 H A (lasts read-count.ended tt (n, (length ys, tt)) ws)) (fact 𝓤 (r ≡ k)))
 
   abbrev to-sender : Sender 𝓤 H A mem′ run .Ghost
   to-sender = ((tt, tt, tt, (e, tt), (event-vals e, tt)), tt)
@@ -364,7 +364,7 @@ module _ {M : Type 1} (𝓤 : URA M) (H : Heap 𝓤) (A : Atoms 𝓤) (W : Given
   full : (rs : List (List ℕ)) → length rs ≡ 1024 → Room Five (length rs)
   full rs l = subst (Room Five) (sym l) (lit< tt, lit< tt)
 
-  module _ (C : Calls 𝓤 H) (Λ : Loops 𝓤 H) (fm : FmC 𝓤 H (W .laws) C) (known-read : Triple 𝓤 (C #boundary-parts·read) (Read 𝓤 H A mem′ run)) (known-sender : Triple 𝓤 (C #boundary-parts·sender) (Sender 𝓤 H A mem′ run)) (known-receiver : Triple 𝓤 (C #boundary-parts·receiver) (Receiver 𝓤 H A mem′ run)) (known-first : Triple 𝓤 (C #message-list·first) (First 𝓤 H A mem′ run)) (known-blank-rows : Triple 𝓤 (C #boundary-parts·blank-rows) (Blank 𝓤 H A mem′ run)) (known-to-rows : Triple 𝓤 (C #message-rows·to-rows) (ToRows 𝓤 H A mem′ run)) (known-on-rows : Triple 𝓤 (C #boundary-parts·on-rows) (OnRows 𝓤 H A mem′ run)) (known-changed-from : Triple 𝓤 (C #boundary-parts·changed-from) (ChangedFrom 𝓤 H A mem′ run)) (known-rewrite : Triple 𝓤 (C #message-rows·rewrite) (Rewrite 𝓤 H A mem′ run)) where
+  module _ (C : Calls 𝓤 H) (Λ : Loops 𝓤 H) (fm : FmC 𝓤 H (W .laws) C) (known-read-count : Triple 𝓤 (C #boundary-parts·read-count) (ReadCount 𝓤 H A mem′ run)) (known-sender : Triple 𝓤 (C #boundary-parts·sender) (Sender 𝓤 H A mem′ run)) (known-receiver : Triple 𝓤 (C #boundary-parts·receiver) (Receiver 𝓤 H A mem′ run)) (known-first : Triple 𝓤 (C #message-list·first) (First 𝓤 H A mem′ run)) (known-blank-rows : Triple 𝓤 (C #boundary-parts·blank-rows) (Blank 𝓤 H A mem′ run)) (known-to-rows : Triple 𝓤 (C #message-rows·to-rows) (ToRows 𝓤 H A mem′ run)) (known-on-rows : Triple 𝓤 (C #boundary-parts·on-rows) (OnRows 𝓤 H A mem′ run)) (known-changed-from : Triple 𝓤 (C #boundary-parts·changed-from) (ChangedFrom 𝓤 H A mem′ run)) (known-rewrite : Triple 𝓤 (C #message-rows·rewrite) (Rewrite 𝓤 H A mem′ run)) where
     walk : ent 𝓤 (onEntry 𝓤 H A event.signature (κ₀, (κ₁, (κ₂, (κ₃, (κ₄, tt))))) (q₀, (q₁, (q₂, (q₃, (q₄, tt))))) x at) (WpFn 𝓤 H C Λ code.function (only (rig-vals g) ∷ ptr-val t₀ ∷ ptr-val t₁ ∷ ptr-val t₂ ∷ ptr-val t₃ ∷ s ∷ vint w64 n ∷ only (event-vals e) ∷ []) Post)
     walk =
         qed W ((‵ (flft κ₀ q₀) ⊛ (‵ (flft κ₁ q₁) ⊛ (‵ (flft κ₂ q₂) ⊛ (‵ (flft κ₃ q₃) ⊛ (‵ (flft κ₄ q₄) ⊛ ‵ ftrue))))) ∷ ‵ (owns (G.the-row ∷ MutRef (named 0) κ₀ Tab ∷ MutRef (named 1) κ₁ Tab ∷ MutRef (named 2) κ₂ Tab ∷ MutRef (named 3) κ₃ Tab ∷ MutSlice (named 4) κ₄ T.the-row ∷ usize ∷ E.the-row ∷ []) x at) ∷ []) ∵
@@ -376,9 +376,9 @@ module _ {M : Type 1} (𝓤 : URA M) (H : Heap 𝓤) (A : Atoms 𝓤) (W : Given
         pass1 ! (init ! 66 refl (LL.lawful G.the-type G′.the-laws 𝓤 H A W .typed g (rig-vals g) gg .0)) $ pass1 ! (init ! 64 refl (tt, tt)) $ pass1 ! (init ! 62 refl (tt, tt)) $ pass1 ! (init ! 60 refl (tt, tt)) $ pass1 ! (init ! 58 refl (tt, tt)) $ pass1 ! (init ! 56 refl (tt, (tt, (record { fits = room .0 }, tt)))) $ pass1 ! (init ! 54 refl (tt, record { fits = gn })) $ pass1 ! (init ! 52 refl (EL.lawful E.the-type E′.the-laws 𝓤 H A W tt .typed e (event-vals e) ge .0)) $ pass0 ! $
         -- [_34; …; _0; …; obs; the list's borrow; the list's token; the tables and their tokens]
         assigns ! (of-opd ! (load ! (from ! (fld ! refl (stop !))) (look-in ! 56 (sub ! 1 refl (whole !))))) (from ! (stop !)) (init ! 50 refl (tt, record { fits = room .0 })) $
-        use0 W (raw (Read 𝓤 H A mem′ run .pre to-read)) goes-read $
-        calls-at ! fm (Read 𝓤 H A mem′ run) known-read to-read (and-then ! (load ! (from ! (stop !)) (look ! 55 refl)) (and-then ! (load ! (from ! (stop !)) (look ! 51 refl)) (no-more !))) (λ v₁.
-        use1 W (later (some (λ (r : ℕ). (‵ ftrue ⊛ ‵ (usize .own r (v₁ ∷ []))) ⊛ raw (ensured 𝓤 H A read′.ended (read′.clauses 𝓤 H A mem′ run) tt (n, (length ys, tt)) tt r)))) (id⊢ 𝓤 _) $ await ! tt $ pick ! (λ r₁.
+        use0 W (raw (ReadCount 𝓤 H A mem′ run .pre to-read)) goes-read $
+        calls-at ! fm (ReadCount 𝓤 H A mem′ run) known-read-count to-read (and-then ! (load ! (from ! (stop !)) (look ! 55 refl)) (and-then ! (load ! (from ! (stop !)) (look ! 51 refl)) (no-more !))) (λ v₁.
+        use1 W (later (some (λ (r : ℕ). (‵ ftrue ⊛ ‵ (usize .own r (v₁ ∷ []))) ⊛ raw (ensured 𝓤 H A read-count.ended (read-count.clauses 𝓤 H A mem′ run) tt (n, (length ys, tt)) tt r)))) (id⊢ 𝓤 _) $ await ! tt $ pick ! (λ r₁.
         split ! $ move ! (1 ∷ []) $ use1 W (raw (fact 𝓤 (r₁ ≡ k))) (said-read r₁) $ heard ! (r₁ ≡ k) (λ p₁. split ! $ drop ! $ facts ! usize (Is usize) (shows 𝓤 H A usize) r₁ (v₁ ∷ []) (λ is₁.
         land ! (from ! (stop !)) (init ! 48 refl (uint-lawful 𝓤 H A W w64 .typed r₁ (v₁ ∷ []) is₁ .0)) $
         rewrite ! 48 (λ (u : Val). ‵ (fat fullShare (tyInt w64) l₁₀ 0 u)) (number v₁ r₁ (k) p₁ is₁) refl $
@@ -506,7 +506,7 @@ module _ {M : Type 1} (𝓤 : URA M) (H : Heap 𝓤) (A : Atoms 𝓤) (W : Given
         code-small v r is = LL.owed K.the-type K′.the-laws r (v ∷ []) is .0 .1
 
 module _ {M : Type 1} (𝓤 : URA M) (H : Heap 𝓤) (A : Atoms 𝓤) (W : Given 𝓤 H A) (mem′ : Memory → SProp 𝓤) (run : Routine → Fun 𝓤) where
-  event-walks : (C : Calls 𝓤 H) (Λ : Loops 𝓤 H) → FmC 𝓤 H (W .laws) C → Triple 𝓤 (C #boundary-parts·read) (Read 𝓤 H A mem′ run) → Triple 𝓤 (C #boundary-parts·sender) (Sender 𝓤 H A mem′ run) → Triple 𝓤 (C #boundary-parts·receiver) (Receiver 𝓤 H A mem′ run) → Triple 𝓤 (C #message-list·first) (First 𝓤 H A mem′ run) → Triple 𝓤 (C #boundary-parts·blank-rows) (Blank 𝓤 H A mem′ run) → Triple 𝓤 (C #message-rows·to-rows) (ToRows 𝓤 H A mem′ run) → Triple 𝓤 (C #boundary-parts·on-rows) (OnRows 𝓤 H A mem′ run) → Triple 𝓤 (C #boundary-parts·changed-from) (ChangedFrom 𝓤 H A mem′ run) → Triple 𝓤 (C #message-rows·rewrite) (Rewrite 𝓤 H A mem′ run)
+  event-walks : (C : Calls 𝓤 H) (Λ : Loops 𝓤 H) → FmC 𝓤 H (W .laws) C → Triple 𝓤 (C #boundary-parts·read-count) (ReadCount 𝓤 H A mem′ run) → Triple 𝓤 (C #boundary-parts·sender) (Sender 𝓤 H A mem′ run) → Triple 𝓤 (C #boundary-parts·receiver) (Receiver 𝓤 H A mem′ run) → Triple 𝓤 (C #message-list·first) (First 𝓤 H A mem′ run) → Triple 𝓤 (C #boundary-parts·blank-rows) (Blank 𝓤 H A mem′ run) → Triple 𝓤 (C #message-rows·to-rows) (ToRows 𝓤 H A mem′ run) → Triple 𝓤 (C #boundary-parts·on-rows) (OnRows 𝓤 H A mem′ run) → Triple 𝓤 (C #boundary-parts·changed-from) (ChangedFrom 𝓤 H A mem′ run) → Triple 𝓤 (C #message-rows·rewrite) (Rewrite 𝓤 H A mem′ run)
       → Walks 𝓤 H A event.ended stayed (WpFn 𝓤 H C Λ code.function) (event.clauses 𝓤 H A mem′ run)
   event-walks C Λ fm k₁ k₂ k₃ k₄ k₅ k₆ k₇ k₈ k₉ = walked 𝓤 H A event.ended stayed (event.clauses 𝓤 H A mem′ run) (WpFn 𝓤 H C Λ code.function)
       (λ κs. (rig-vals, (ptr-vals, (ptr-vals, (ptr-vals, (ptr-vals, (slice-vals, (uint-vals w64, (event-vals, tt)))))))))
@@ -522,7 +522,7 @@ module _ {M : Type 1} (𝓤 : URA M) (H : Heap 𝓤) (A : Atoms 𝓤) (W : Given
     (goes-gave-ref 𝓤 H A W 5 0 tt tab, (goes-gave-ref 𝓤 H A W 5 1 tt tab, (goes-gave-ref 𝓤 H A W 5 2 tt tab, (goes-gave-ref 𝓤 H A W 5 3 tt tab, (goes-gave-slice 𝓤 H A W 5 4 tt (plain (λ _. T.the-row)), (goes-dropped 𝓤 H A W 5 (plain (λ _. usize)) yes (λ κs x f. refl), (goes-dropped 𝓤 H A W 5 (plain (λ _. E.the-row)) yes (λ κs x f. refl), tt))))))),
   )
 
-event-meets : {M : Type 1} (𝓤 : URA M) (H : Heap 𝓤) (A : Atoms 𝓤) (W : Given 𝓤 H A) (mem′ : Memory → SProp 𝓤) (run : Routine → Fun 𝓤) (𝓣 : Tables 𝓤 H) → Triple 𝓤 (𝓣 .C #boundary-parts·read) (Read 𝓤 H A mem′ run) → Triple 𝓤 (𝓣 .C #boundary-parts·sender) (Sender 𝓤 H A mem′ run) → Triple 𝓤 (𝓣 .C #boundary-parts·receiver) (Receiver 𝓤 H A mem′ run) → Triple 𝓤 (𝓣 .C #message-list·first) (First 𝓤 H A mem′ run) → Triple 𝓤 (𝓣 .C #boundary-parts·blank-rows) (Blank 𝓤 H A mem′ run) → Triple 𝓤 (𝓣 .C #message-rows·to-rows) (ToRows 𝓤 H A mem′ run) → Triple 𝓤 (𝓣 .C #boundary-parts·on-rows) (OnRows 𝓤 H A mem′ run) → Triple 𝓤 (𝓣 .C #boundary-parts·changed-from) (ChangedFrom 𝓤 H A mem′ run) → Triple 𝓤 (𝓣 .C #message-rows·rewrite) (Rewrite 𝓤 H A mem′ run)
+event-meets : {M : Type 1} (𝓤 : URA M) (H : Heap 𝓤) (A : Atoms 𝓤) (W : Given 𝓤 H A) (mem′ : Memory → SProp 𝓤) (run : Routine → Fun 𝓤) (𝓣 : Tables 𝓤 H) → Triple 𝓤 (𝓣 .C #boundary-parts·read-count) (ReadCount 𝓤 H A mem′ run) → Triple 𝓤 (𝓣 .C #boundary-parts·sender) (Sender 𝓤 H A mem′ run) → Triple 𝓤 (𝓣 .C #boundary-parts·receiver) (Receiver 𝓤 H A mem′ run) → Triple 𝓤 (𝓣 .C #message-list·first) (First 𝓤 H A mem′ run) → Triple 𝓤 (𝓣 .C #boundary-parts·blank-rows) (Blank 𝓤 H A mem′ run) → Triple 𝓤 (𝓣 .C #message-rows·to-rows) (ToRows 𝓤 H A mem′ run) → Triple 𝓤 (𝓣 .C #boundary-parts·on-rows) (OnRows 𝓤 H A mem′ run) → Triple 𝓤 (𝓣 .C #boundary-parts·changed-from) (ChangedFrom 𝓤 H A mem′ run) → Triple 𝓤 (𝓣 .C #message-rows·rewrite) (Rewrite 𝓤 H A mem′ run)
     → Meets 𝓤 H A event.signature (WpFn 𝓤 H (𝓣 .C) (𝓣 .Λ) code.function) (event.spec 𝓤 H A mem′ run)
 event-meets 𝓤 H A W mem′ run 𝓣 k₁ k₂ k₃ k₄ k₅ k₆ k₇ k₈ k₉ =
     walk-meets 𝓤 H A event.ended stayed W (goes 𝓤 H A W mem′ run) (event.clauses 𝓤 H A mem′ run)
@@ -534,7 +534,7 @@ event-spec 𝓤 H 𝓜 𝓖 𝓡 =
     entered 𝓤 H (tripleOf 𝓤 H (𝓖 .A) event.signature (event.spec 𝓤 H (𝓖 .A) (𝓜 .mem) (𝓡 .run)))
     (tables 𝓤 H 𝓜 𝓡 code.env .C) (tables 𝓤 H 𝓜 𝓡 code.env .Λ) #boundary·event code.function (code.unfolded 𝓤 H 𝓜 𝓡)
     (event-meets 𝓤 H (𝓖 .A) (givenOf 𝓤 H 𝓜 𝓖) (𝓜 .mem) (𝓡 .run) (tablesOf 𝓤 H 𝓜 (tables 𝓤 H 𝓜 𝓡 code.env))
-    (cited 𝓤 H (Read 𝓤 H (𝓖 .A) (𝓜 .mem) (𝓡 .run)) 𝓜 𝓡 code.env #boundary-parts·read read-def.routine code.calls-boundary-parts·read (read-thm.met 𝓤 H 𝓜 𝓖 𝓡))
+    (cited 𝓤 H (ReadCount 𝓤 H (𝓖 .A) (𝓜 .mem) (𝓡 .run)) 𝓜 𝓡 code.env #boundary-parts·read-count read-count-def.routine code.calls-boundary-parts·read-count (read-count-thm.met 𝓤 H 𝓜 𝓖 𝓡))
     (cited 𝓤 H (Sender 𝓤 H (𝓖 .A) (𝓜 .mem) (𝓡 .run)) 𝓜 𝓡 code.env #boundary-parts·sender sender-def.routine code.calls-boundary-parts·sender (sender-thm.met 𝓤 H 𝓜 𝓖 𝓡))
     (cited 𝓤 H (Receiver 𝓤 H (𝓖 .A) (𝓜 .mem) (𝓡 .run)) 𝓜 𝓡 code.env #boundary-parts·receiver receiver-def.routine code.calls-boundary-parts·receiver (receiver-thm.met 𝓤 H 𝓜 𝓖 𝓡))
     (cited 𝓤 H (First 𝓤 H (𝓖 .A) (𝓜 .mem) (𝓡 .run)) 𝓜 𝓡 code.env #message-list·first first-def.routine code.calls-message-list·first (first-thm.met 𝓤 H 𝓜 𝓖 𝓡))

@@ -2,7 +2,6 @@
 use Prim.Native.Nat.{_+_, _≤_}
 use native.Mathlib.Nat.{mul-le-mul}
 use native.Mathlib.Omega.{arith}
-use borrow.Author.Needs.{needs}
 use Rattle.plane_table.proofs.plane_entry.Statement.{statement}
 use Rattle.plane_table.proofs.plane_entry.Tie as tie
 

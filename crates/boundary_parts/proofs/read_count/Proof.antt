@@ -1,8 +1,8 @@
--- `read`: two tests.
+-- `read_count`: two tests.
 use borrow.Author.Tests.{eq-eqb, ne-eqb, lt-ltb, le-ltb}
 use Rattle.rig.specs.Limits.{messageLimit}
-use Rattle.boundary_parts.proofs.read.Statement.{statement}
-use Rattle.boundary_parts.proofs.read.Tie as tie
+use Rattle.boundary_parts.proofs.read_count.Statement.{statement}
+use Rattle.boundary_parts.proofs.read_count.Tie as tie
 
 returns : tie.Need-returns
 returns c = rw (ne-eqb _ _ (c .if1 .taken))
@@ -13,5 +13,5 @@ returns-2 c = rw (eq-eqb _ _ (c .before .if1 .left), lt-ltb messageLimit (c .bef
 returns-3 : tie.Need-returns-3
 returns-3 c = rw (eq-eqb _ _ (c .before .if1 .left), le-ltb messageLimit (c .before .before .args .count) (c .if2 .left))
 
-pub read-spec : {M : Type 1} → statement M
-read-spec = tie.close (tie.spec returns returns-2 returns-3)
+pub read-count-spec : {M : Type 1} → statement M
+read-count-spec = tie.close (tie.spec returns returns-2 returns-3)
