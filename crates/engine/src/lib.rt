@@ -38,7 +38,7 @@ fn play(
 }
 
 // An inner call: an event on a well-shaped state whose rows past the count are zeros, without a test of either. Both hold of the next
-// state of a run, so that a caller who keeps the state to himself pays for the tests never.
+// state of a run, so that a caller who alone has the state needs no tests.
 pub fn step(
     rig: Rig,
     held: &mut Table,

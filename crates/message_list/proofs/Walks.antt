@@ -1,4 +1,8 @@
 -- What the walks over a slice of messages share.
+-- A walk shows, for each step of a function as it is compiled (its MIR, `rt mir` prints it), what is in memory before and after. What is had at a
+-- point stands in square brackets: `_5; …` is local 5 and the right to free it; `row` the elements of a slice; a token the right to use
+-- a reference while its lifetime lasts; `obs` and `auth` the two halves of what is known of a lent value, joined while its borrow is open; the
+-- lender's part what gives the elements back when the lifetime ends.
 use Prim.Native.Nat.{ℕ, _+_, _-_, _*_, _<_, _≤_, _^_}
 use native.Mathlib.Omega.{arith}
 use mathlib.Core.List.{List}

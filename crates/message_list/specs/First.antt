@@ -8,9 +8,10 @@ use Rattle.model.specs.Deliver.{between}
 use Rattle.mail.specs.declared.Found.{Found}
 use Rattle.mail.specs.Places.{placeFrom}
 
--- the place of the first message from a to b
+-- the place of the first message from a to b; `foundIn` of mail says the same of rows
 abbrev pub firstIn : ℕ → ℕ → List Message → Found
 firstIn a b ms = placeFrom 0 (between a b) ms
 
+-- the smaller of two numbers
 abbrev pub smaller : ℕ → ℕ → ℕ
 smaller m n = cond (ltb m n) m n

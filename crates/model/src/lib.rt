@@ -12,8 +12,8 @@ pub fn demand_3() -> u8
     0
 }
 
-// Beyond demand 3: no event of a run is refused with 10, or with 13 where its list began with 1,024 entries, or with 9 but for the count
-// of events; and no reply, yield or plain release of a run is stray.
+// Beyond demand 3: every state of a run is well shaped, and its numbers are small; no event of a run is refused with 10, or with 13
+// where its list began with 1,024 entries, or with 9 but for the count of events; no reply, yield or plain release of a run is stray.
 pub fn beyond() -> u8
     ensures { λ r. ⌜ (r ≡ 0) × AlwaysShaped × AlwaysLong × NumbersSmall × NineByCount × NeverStray ⌝ }
 {

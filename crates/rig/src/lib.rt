@@ -160,7 +160,7 @@ impl Message {
         }
     }
 
-    // `yield` may be a reserved word of the host languages that read this file, so the function says what it does.
+    // `yield` is a reserved word of Rust.
     pub fn yielding(from: u64, to: u64, grant: u64) -> Message
         ensures { λ r. ⌜ r ≡ yield from to grant ⌝ }
     {
