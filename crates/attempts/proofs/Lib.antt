@@ -1,4 +1,3 @@
 -- Laws that belong to no one function.
 pub mod Shaped
 pub mod Answers
-pub mod AtPlace

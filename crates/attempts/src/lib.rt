@@ -1,23 +1,19 @@
-// The three events, each on a well-shaped state: refused with 4, 5, 6 or 7, or judged by the limits and stored.
+// An ask or a leave on a well-shaped state: refused with 4, 5 or 6, or judged by the limits and stored.
 use accepting::Answer;
 use accepting::conclude;
 use desks::desk;
-use mail::Found;
 use mail::Row;
-use mail::first;
-use mail::message;
 use modes::is_inside;
 use modes::is_resting;
 use ranges::is_site;
 use rig::Rig;
 use rig::Table;
-ghost use Rattle.rig.specs.declared.Event.the-variants.{Ask, Leave, Deliver};
-ghost use Rattle.accepting.specs.Whole.{stored, answered, tidied};
+ghost use Rattle.rig.specs.declared.Event.the-variants.{Ask, Leave};
+ghost use Rattle.accepting.specs.Whole.{stored};
 ghost use Rattle.attempts.specs.Needs.{Ready, Played};
-ghost use Rattle.attempts.specs.AtPlace.{ByPlace};
 
 // The messages that one event may send: at most two for each site.
-const SENT_LIMIT: usize = 2 * Rig::SITES;
+pub const SENT_LIMIT: usize = 2 * Rig::SITES;
 
 // An inner call: site s asks.
 pub fn ask(
@@ -109,61 +105,6 @@ pub fn leave(
         count,
         s,
         a,
-        &out,
-    )
-}
-
-// An inner call: the first message from a to b is delivered, by the case of `Found`.
-pub fn deliver(
-    rig: Rig,
-    held: &mut Table,
-    heir: &mut Table,
-    inquired: &mut Table,
-    queued: &mut Table,
-    list: &mut [Row],
-    count: usize,
-    a: u64,
-    b: u64,
-) -> Answer
-    requires { ⌜ Ready (stored rig (now held) (now heir) (now inquired) (now queued) (now list) count) ⌝ }
-    ensures { λ r. ⌜ Played (stored rig (now (held .entry)) (now (heir .entry)) (now (inquired .entry)) (now (queued .entry)) (now (list .entry)) count) (Deliver a b) (now (list .entry)) r (now (held .exit)) (now (heir .exit)) (now (inquired .exit)) (now (queued .exit)) (now (list .exit)) × ByPlace (stored rig (now (held .entry)) (now (heir .entry)) (now (inquired .entry)) (now (queued .entry)) (now (list .entry)) count) a b (now (list .entry)) (answered r (now (held .exit)) (now (heir .exit)) (now (inquired .exit)) (now (queued .exit)) (tidied r (now (list .exit)))) ⌝ }
-{
-    if !is_site(rig.size, a) {
-        return Answer {
-            code: 4,
-            rig: rig,
-            count: count,
-        };
-    }
-    if !is_site(rig.size, b) {
-        return Answer {
-            code: 4,
-            rig: rig,
-            count: count,
-        };
-    }
-    let Found::At(place) = first(list, count, a, b) else {
-        return Answer {
-            code: 7,
-            rig: rig,
-            count: count,
-        };
-    };
-    let d = desk(rig, held, heir, inquired, queued, b);
-    let m = message(list[place]);
-    let mut out = [[0; 5]; SENT_LIMIT];
-    let done = delivery::deliver(d, m, &mut out, 0);
-    conclude(
-        rig,
-        held,
-        heir,
-        inquired,
-        queued,
-        list,
-        count,
-        place,
-        b,
-        done,
         &out,
     )
 }

@@ -1,7 +1,7 @@
 // One event on a rig: the state and the event go in, the code and the next state come out.
 use accepting::Answer;
+use attempt_delivery::deliver;
 use attempts::ask;
-use attempts::deliver;
 use attempts::leave;
 use mail::Row;
 use mail::clear_from;

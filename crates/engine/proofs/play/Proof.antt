@@ -3,7 +3,7 @@ use borrow.Author.Needs.{needs}
 use Rattle.engine.proofs.play.Statement.{statement}
 use Rattle.engine.proofs.play.Tie as tie
 use Rattle.attempts.proofs.ask.Reads as ask-reads
-use Rattle.attempts.proofs.deliver.Reads as deliver-reads
+use Rattle.attempt_delivery.proofs.deliver.Reads as deliver-reads
 use Rattle.attempts.proofs.leave.Reads as leave-reads
 
 enum-known-e : tie.Need-enum-known-e

@@ -18,9 +18,9 @@ use Rattle.mail.specs.Rows.{messageOf}
 use Rattle.mail.specs.Places.{placeFrom, foundFrom}
 use Rattle.accepting.specs.declared.Answer.{Answer}
 use Rattle.accepting.specs.Whole.{answered, tidied}
 use Rattle.attempts.specs.Needs.{Ready, Played}
-use Rattle.attempts.specs.AtPlace.{attemptAt, ByPlace}
+use Rattle.attempt_delivery.specs.AtPlace.{attemptAt, ByPlace}
 use Rattle.attempts.proofs.Answers.{under-way, judged-next}
 
 by-found : {C : Type 0} (f : Found) → ((i : ℕ) → f ≡ At i → C) → (f ≡ Nowhere → C) → C
 by-found (At i) x y = x i refl

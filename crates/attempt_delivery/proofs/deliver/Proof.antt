@@ -16,11 +16,11 @@ use Rattle.model.proofs.Delivered.{first-shaped}
 use Rattle.mail.specs.Rows.{messageOf}
 use Rattle.mail.proofs.Places.{found-at}
 use Rattle.accepting.specs.Whole.{stored}
 use Rattle.attempts.proofs.Shaped.{size, listed, grant, sender, about-arbiter, about-high}
 use Rattle.attempts.proofs.Answers.{did-effect, did-fits, found-none, found-first, found-rest, same-judged, unnamed, none-under-way, delivers}
-use Rattle.attempts.proofs.AtPlace.{with-place}
-use Rattle.attempts.proofs.deliver.Statement.{statement}
-use Rattle.attempts.proofs.deliver.Tie as tie
+use Rattle.attempt_delivery.proofs.AtPlace.{with-place}
+use Rattle.attempt_delivery.proofs.deliver.Statement.{statement}
+use Rattle.attempt_delivery.proofs.deliver.Tie as tie
 use Rattle.accepting.proofs.conclude.Reads as conclude-reads
 use Rattle.delivery.proofs.deliver.Reads as deliver-reads
 use Rattle.desks.proofs.desk.Reads as desk-reads
