@@ -1,59 +1,21 @@
-// One event on a rig: the state and the event go in, the code and the next state come out.
-use accepting::Answer;
-use attempt_delivery::deliver;
-use attempts::ask;
-use attempts::leave;
-use mail::Row;
-use mail::clear_from;
+// The engine's public call: one event, on a list of messages that is lent as a slice of structs.
+use event_storing::Answer;
+use engine_parts::blank_rows;
+use engine_parts::changed_from;
+use engine_parts::on_rows;
+use engine_parts::read_count;
+use engine_parts::receiver;
+use engine_parts::sender;
+use list_lent::first;
+use list_copy::rewrite;
+use list_copy::to_rows;
 use rig::Event;
+use rig::Message;
 use rig::Rig;
 use rig::Table;
-use shape::well_shaped;
 ghost use mathlib.Core.Path.{_≡_};
 ghost use Rattle.model.specs.Event.{event};
-ghost use Rattle.mail.specs.Places.{cleared};
-ghost use Rattle.accepting.specs.Whole.{stored, answered};
-ghost use Rattle.attempts.specs.Needs.{Ready, Played};
-ghost use Rattle.engine.specs.Stepped.{Stepped};
-
-// An inner call: an event on a well-shaped state.
-fn play(
-    rig: Rig,
-    held: &mut Table,
-    heir: &mut Table,
-    inquired: &mut Table,
-    queued: &mut Table,
-    list: &mut [Row],
-    count: usize,
-    e: Event,
-) -> Answer
-    requires { ⌜ Ready (stored rig (now held) (now heir) (now inquired) (now queued) (now list) count) ⌝ }
-    ensures { λ r. ⌜ Played (stored rig (now (held .entry)) (now (heir .entry)) (now (inquired .entry)) (now (queued .entry)) (now (list .entry)) count) e (now (list .entry)) r (now (held .exit)) (now (heir .exit)) (now (inquired .exit)) (now (queued .exit)) (now (list .exit)) ⌝ }
-{
-    match e {
-        Event::Ask(s) => ask(rig, held, heir, inquired, queued, list, count, s),
-        Event::Leave(s) => leave(rig, held, heir, inquired, queued, list, count, s),
-        Event::Deliver(a, b) => deliver(rig, held, heir, inquired, queued, list, count, a, b),
-    }
-}
-
-// An inner call: an event on a well-shaped state whose rows past the count are zeros, without a test of either. Both hold of the next
-// state of a run, so that a caller who alone has the state needs no tests.
-pub fn step(
-    rig: Rig,
-    held: &mut Table,
-    heir: &mut Table,
-    inquired: &mut Table,
-    queued: &mut Table,
-    list: &mut [Row],
-    count: usize,
-    e: Event,
-) -> Answer
-    requires { ⌜ Ready (stored rig (now held) (now heir) (now inquired) (now queued) (now list) count) × (cleared count (now list) ≡ now list) ⌝ }
-    ensures { λ r. ⌜ Stepped (stored rig (now (held .entry)) (now (heir .entry)) (now (inquired .entry)) (now (queued .entry)) (now (list .entry)) count) e (answered r (now (held .exit)) (now (heir .exit)) (now (inquired .exit)) (now (queued .exit)) (now (list .exit))) × (cleared (r .count) (now (list .exit)) ≡ now (list .exit)) ⌝ }
-{
-    play(rig, held, heir, inquired, queued, list, count, e)
-}
+ghost use Rattle.engine.specs.Lent.{lent, lentAnswer};
 
 // One event, on any state at all: the code of document 01, and the next state.
 pub fn event(
@@ -62,36 +24,18 @@ pub fn event(
     heir: &mut Table,
     inquired: &mut Table,
     queued: &mut Table,
-    list: &mut [Row],
+    list: &mut [Message],
     count: usize,
     e: Event,
 ) -> Answer
-    ensures { λ r. ⌜ answered r (now (held .exit)) (now (heir .exit)) (now (inquired .exit)) (now (queued .exit)) (now (list .exit)) ≡ event (stored rig (now (held .entry)) (now (heir .entry)) (now (inquired .entry)) (now (queued .entry)) (now (list .entry)) count) e ⌝ }
+    ensures { λ r. ⌜ lentAnswer r (now (held .exit)) (now (heir .exit)) (now (inquired .exit)) (now (queued .exit)) (now (list .exit)) ≡ event (lent rig (now (held .entry)) (now (heir .entry)) (now (inquired .entry)) (now (queued .entry)) (now (list .entry)) count) e ⌝ }
 {
-    if list.len() != Rig::MESSAGES {
-        return Answer {
-            code: 13,
-            rig: rig,
-            count: count,
-        };
-    }
-    if count > Rig::MESSAGES {
-        return Answer {
-            code: 10,
-            rig: rig,
-            count: count,
-        };
-    }
-    if !well_shaped(rig, held, heir, inquired, queued, list, count) {
-        return Answer {
-            code: 10,
-            rig: rig,
-            count: count,
-        };
-    }
-    let r = play(rig, held, heir, inquired, queued, list, count, e);
-    if r.code == 0 {
-        clear_from(list, r.count);
-    }
+    let len = list.len();
+    let n = read_count(count, len);
+    let found = first(list, n, sender(e), receiver(e));
+    let mut rows = blank_rows();
+    to_rows(list, n, &mut rows);
+    let r = on_rows(rig, held, heir, inquired, queued, &mut rows, len, count, e);
+    rewrite(list, changed_from(r.code, found, count, len), &rows);
     r
 }

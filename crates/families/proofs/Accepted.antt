@@ -11,12 +11,12 @@ use Rattle.model.specs.Sets.{member, setOf, meet, names}
 use Rattle.model.specs.Setup.{sizeListed, allName, meetsEarlier, allMeet, setupCode}
 use Rattle.families.specs.declared.Family.{Family}
 use Rattle.families.specs.declared.Family.the-variants.{Grid, Billiard, Plane}
-use Rattle.grid.specs.Grid.{gridEntry}
-use Rattle.billiard.specs.Billiard.{qComputed, billiardSize, modFromOne, firstSite, nextAbove, nextBelow, nextSite, pathSite, billiardEntry}
-use Rattle.plane.specs.Plane.{firstMatrix, otherMatrix, planeEntry}
+use Rattle.family_grid.specs.Grid.{gridEntry}
+use Rattle.family_billiard.specs.Billiard.{qComputed, billiardSize, modFromOne, firstSite, nextAbove, nextBelow, nextSite, pathSite, billiardEntry}
+use Rattle.family_plane.specs.Plane.{firstMatrix, otherMatrix, planeEntry}
 use Rattle.families.specs.Family.{listed, computed, sizeOf, widthOf, entry, hasSite, setAt, setsUpTo, setsOf, billiardSet}
 use Rattle.families.proofs.Parameters.{by-side, by-p}
-use Rattle.billiard.proofs.Parameters.{by-q}
+use Rattle.family_billiard.proofs.Parameters.{by-q}
 
 -- what setup answers to a family's sets
 abbrev answer : Family → ℕ

@@ -11,8 +11,8 @@ use Rattle.families.specs.declared.Family.{Family}
 use Rattle.families.specs.declared.Family.the-variants.{Grid, Billiard, Plane}
 use Rattle.families.specs.Family.{computed, sizeOf}
 use Rattle.families.proofs.Parameters.{side-bounds, p-bounds}
-use Rattle.billiard.specs.Billiard.{billiardSize}
-use Rattle.billiard.proofs.Locations.{size-most}
+use Rattle.family_billiard.specs.Billiard.{billiardSize}
+use Rattle.family_billiard.proofs.Locations.{size-most}
 
 -- a bit of one of the sites of the largest family, the billiard of q = 9, as the code shifts it
 pub bit-most : (m : ℕ) → m < billiardSize 9 → 2 ^ m < 2 ^ billiardSize 9

@@ -9,7 +9,7 @@ use Rattle.basics.proofs.Basics.{and-split}
 use Rattle.basics.proofs.Numbers.{three}
 use Rattle.families.specs.declared.Family.{Family}
 use Rattle.families.specs.declared.Family.the-variants.{Grid, Billiard, Plane}
-use Rattle.billiard.specs.Billiard.{qComputed}
+use Rattle.family_billiard.specs.Billiard.{qComputed}
 use Rattle.families.specs.Family.{listed, computed}
 
 -- what holds at each parameter holds of any that is listed

@@ -10,9 +10,9 @@ use Rattle.model.specs.Sets.{setOf}
 use Rattle.families.specs.declared.Family.{Family}
 use Rattle.families.specs.declared.Family.the-variants.{Grid, Billiard, Plane}
 use Rattle.families.specs.declared.Made.{Made}
-use Rattle.grid.specs.Grid.{gridSize, gridWidth, gridEntry}
-use Rattle.billiard.specs.Billiard.{qListed, qComputed, billiardSize, billiardEntry}
-use Rattle.plane.specs.Plane.{planeSize, planeEntry}
+use Rattle.family_grid.specs.Grid.{gridSize, gridWidth, gridEntry}
+use Rattle.family_billiard.specs.Billiard.{qListed, qComputed, billiardSize, billiardEntry}
+use Rattle.family_plane.specs.Plane.{planeSize, planeEntry}
 
 -- "side s from 1 to 5", "q of 3, 5 or 7", "p of 2, 3 or 5"
 unfoldable pub listed : Family → Bool

@@ -1,14 +1,14 @@
 // Three families of request sets: the grid, the billiard and the plane.
-use billiard::billiard_entry;
-use grid::grid_entry;
-use plane_table::plane_entry;
+use family_billiard::billiard_entry;
+use family_grid::grid_entry;
+use family_plane_table::plane_entry;
 use rig::Rig;
 ghost use mathlib.Core.Path.{_≡_};
 ghost use mathlib.Core.Bool.{true, cond};
 ghost use Prim.Native.Nat.{_+_, _^_, _≤_, _<_};
 ghost use lib.ListN.{length};
 ghost use Rattle.rig.specs.Limits.{siteLimit};
-ghost use Rattle.billiard.specs.Billiard.{billiardSize};
+ghost use Rattle.family_billiard.specs.Billiard.{billiardSize};
 ghost use Rattle.model.specs.Setup.{setupCode};
 ghost use Rattle.families.specs.Family.{listed, computed, sizeOf, widthOf, entry, hasSite, setAt, setsOf, made, filled, billiardSet};
 

@@ -2,5 +2,5 @@
 use libc::STDIN_FILENO;
 
 fn main() {
-    console::play_from(STDIN_FILENO);
+    player_console::play_from(STDIN_FILENO);
 }

@@ -3,7 +3,7 @@ use mathlib.Core.Path.{sym, _∙_}
 use borrow.Author.Tests.{eq-eqb, ne-eqb}
 use borrow.Author.Needs.{needs}
 use Rattle.basics.proofs.Basics.{or-second}
-use Rattle.billiard.specs.Billiard.{qListed, qComputed}
+use Rattle.family_billiard.specs.Billiard.{qListed, qComputed}
 use Rattle.families.specs.Family.{listed, computed, billiardSet}
 use Rattle.families.proofs.Parameters.{listed-computed}
 use Rattle.families.proofs.billiard_set.Statement.{statement}

@@ -5,7 +5,7 @@ use borrow.Author.Needs.{needs}
 use Rattle.families.specs.Family.{computed, sizeOf}
 use Rattle.basics.proofs.Numbers.{product, square-least}
 use Rattle.families.proofs.Parameters.{side-bounds, p-bounds}
-use Rattle.billiard.proofs.Parameters.{q-bounds}
+use Rattle.family_billiard.proofs.Parameters.{q-bounds}
 use Rattle.families.proofs.size_of.Statement.{statement}
 use Rattle.families.proofs.size_of.Tie as tie
 

@@ -1,0 +1,98 @@
+// What an arbiter does with a release or a yield, as model/specs/Arbiter defines it. Inner calls: the desk is that of the arbiter's own
+// site, and messages go to `out`, behind the first `count` rows.
+use arbiter_grants::grant_head;
+use arbiter_grants::held_by;
+use arbiter_heirs::heir_takes_over;
+use list_rows::Acted;
+use list_rows::Row;
+use arbiter_queue::queued_at;
+use arbiter_queue::requeued;
+use rig::Desk;
+ghost use mathlib.Core.Path.{_≡_};
+ghost use Prim.Native.Nat.{_+_, _^_, _≤_, _<_};
+ghost use Rattle.rig.specs.Limits.{siteLimit, Listed};
+ghost use Rattle.model.specs.Arbiter.{holderReleases, fromHolder, isEarly, earlyRelease, onRelease, onYield};
+ghost use Rattle.list_rows.specs.Did.{Did};
+ghost use Rattle.arbiter_grants.specs.Needs.{Room};
+
+// The release of the holder; x is the heir that it names, 0 none.
+fn holder_releases(d: Desk, out: &mut [Row], count: usize, x: u64) -> Acted
+    requires { ⌜ Room d 1 2 count (now out) × (x ≤ siteLimit) ⌝ }
+    ensures { λ r. ⌜ Did (holderReleases d x) count (now (out .entry)) (now (out .exit)) r ⌝ }
+{
+    if x == 0 {
+        return grant_head(held_by(d, d.arbiter.grant, 0, 0), out, count);
+    }
+    if queued_at(&d.queued, x) == 0 {
+        return Acted {
+            desk: d,
+            count: count,
+        };
+    }
+    heir_takes_over(d, out, count, x)
+}
+
+// Whether the message is from the holder, with its grant number.
+fn from_holder(d: Desk, k: u64, n: u64) -> bool
+    ensures { λ r. ⌜ r ≡ fromHolder d k n ⌝ }
+{
+    if n != d.arbiter.grant {
+        return false;
+    }
+    k == d.arbiter.holder
+}
+
+// Whether a release came before the arbiter knew that k holds the permission.
+fn is_early(d: Desk, k: u64, x: u64, n: u64) -> bool
+    requires { ⌜ Listed k × (d .arbiter .grant + 1 < 2 ^ 64) ⌝ }
+    ensures { λ r. ⌜ r ≡ isEarly d k x n ⌝ }
+{
+    if n != d.arbiter.grant + 1 {
+        return false;
+    }
+    if x != 0 {
+        return false;
+    }
+    queued_at(&d.queued, k) != 0
+}
+
+// The release of queued site k, which got the permission from the holder.
+fn early_release(d: Desk, out: &mut [Row], count: usize, k: u64) -> Acted
+    requires { ⌜ Room d 2 2 count (now out) × Listed k ⌝ }
+    ensures { λ r. ⌜ Did (earlyRelease d k) count (now (out .entry)) (now (out .exit)) r ⌝ }
+{
+    let u = held_by(requeued(d, k, 0), d.arbiter.grant + 1, 0, 0);
+    grant_head(u, out, count)
+}
+
+// An inner call: a release from k with number n; x is the heir that it names, 0 none.
+pub fn on_release(d: Desk, out: &mut [Row], count: usize, k: u64, x: u64, n: u64) -> Acted
+    requires { ⌜ Room d 2 2 count (now out) × Listed k × (x ≤ siteLimit) ⌝ }
+    ensures { λ r. ⌜ Did (onRelease d k x n) count (now (out .entry)) (now (out .exit)) r ⌝ }
+{
+    if from_holder(d, k, n) {
+        return holder_releases(d, out, count, x);
+    }
+    if is_early(d, k, x, n) {
+        return early_release(d, out, count, k);
+    }
+    Acted {
+        desk: d,
+        count: count,
+    }
+}
+
+// An inner call: a yield from k with number n.
+pub fn on_yield(d: Desk, out: &mut [Row], count: usize, k: u64, n: u64) -> Acted
+    requires { ⌜ Room d 1 2 count (now out) × Listed k ⌝ }
+    ensures { λ r. ⌜ Did (onYield d k n) count (now (out .entry)) (now (out .exit)) r ⌝ }
+{
+    if !from_holder(d, k, n) {
+        return Acted {
+            desk: d,
+            count: count,
+        };
+    }
+    let u = requeued(d, k, d.arbiter.seq);
+    grant_head(held_by(u, d.arbiter.grant, 0, 0), out, count)
+}

@@ -1,0 +1,43 @@
+-- The parts of an event on a lent list.
+use Prim.Native.Nat.{ℕ}
+use mathlib.Core.Bool.{not, cond}
+use mathlib.Core.List.{List}
+use lib.Dec.{eqb, ltb}
+use lib.ListN.{replicate}
+use Rattle.rig.specs.declared.Event.{Event}
+use Rattle.rig.specs.declared.Event.the-variants.{Ask, Leave, Deliver}
+use Rattle.rig.specs.Limits.{messageLimit}
+use Rattle.model.specs.Event as M
+use Rattle.list_rows.specs.declared.Found.{Found}
+use Rattle.list_rows.specs.declared.Found.the-variants.{At, Nowhere}
+use Rattle.list_rows.specs.Places.{zeroRow}
+
+-- the sender of a delivery, and its receiver; 0 for an ask or a leave
+abbrev pub senderOf : Event → ℕ
+senderOf (Ask s) = 0
+senderOf (Leave s) = 0
+senderOf (Deliver a b) = a
+
+abbrev pub receiverOf : Event → ℕ
+receiverOf (Ask s) = 0
+receiverOf (Leave s) = 0
+receiverOf (Deliver a b) = b
+
+-- how many messages are read: none where 13 or 10 turns the list or its count down
+abbrev pub readOf : ℕ → ℕ → ℕ
+readOf count len = cond (not (eqb len messageLimit)) 0 (cond (ltb messageLimit count) 0 count)
+
+abbrev pub blankRows : List (List ℕ)
+blankRows = replicate messageLimit zeroRow
+
+-- an event on a state in rows, where the list has that length
+unfoldable pub judgedRows : ℕ → M.Stored → Event → M.Answer
+judgedRows len s e = cond (not (eqb len messageLimit)) (M.answer 13 s) (M.event s e)
+
+-- the place from which an event changes the list
+abbrev pub placeOf : ℕ → Found → ℕ
+placeOf count (At place) = place
+placeOf count Nowhere = count
+
+abbrev pub changedFrom : ℕ → Found → ℕ → ℕ → ℕ
+changedFrom code found count len = cond (not (eqb code 0)) len (placeOf count found)

@@ -1,0 +1,25 @@
+// Stored cases of the player: plays each text that its arguments name, under a line with the text's name.
+// The file `stdout` was not written by this program: the short answers are read off document 01, the two long ones (codes_full_list,
+// run_billiard_5) come from outside/, the reading of document 01 in Rust.
+use libc::STDOUT_FILENO;
+
+fn play_case(i: usize) {
+    let mut path = io::buffer();
+    let length = os::arg(i, &mut path);
+    io::write_all(STDOUT_FILENO, &path[..length]);
+    io::write_all(STDOUT_FILENO, b"\n");
+    let fd = os::open_read(&path[..length]);
+    if fd < 0 {
+        os::fail(&path[..length]);
+        return;
+    }
+    player_console::play_from(fd);
+    libc::close(fd);
+}
+
+fn main() {
+    let count = os::arg_count();
+    for i in 1..count {
+        play_case(i);
+    }
+}

@@ -1,0 +1,120 @@
+-- Document 01, "The player": the printed example, its 13 steps and its whole text shown by calculation.
+use Prim.Native.Nat.{ℕ, _-_}
+use Prim.Native.Char.{code}
+use Prim.Native.String.{String, [] as []ˢ, _∷_ as _∷ˢ_}
+use mathlib.Core.Path.{_≡_, refl}
+use mathlib.Core.List.{List, [], _∷_, _++_}
+use lib.ListN.{replicate}
+use Rattle.rig.specs.declared.Event.{Event}
+use Rattle.rig.specs.declared.Event.the-variants.{Ask, Leave, Deliver}
+use Rattle.rig.specs.Limits.{siteLimit, messageLimit}
+use Rattle.model.specs.Tables.{at, put, cell}
+use Rattle.basics.specs.Helpers.{all, any, count, lowest, first, withoutFirst}
+use Rattle.model.specs.Sets.{member, meet, names}
+use Rattle.model.specs.Setup.{sizeListed, allName, meetsEarlier, allMeet, setupCode, keptSets, freshRig}
+use Rattle.model.specs.State.{freshTables, deskOf, withDesk}
+use Rattle.model.specs.Priority.{comesBefore, headWith, head}
+use Rattle.model.specs.Ask.{requests, asked}
+use Rattle.model.specs.Leave.{handOn, handOns, left}
+use Rattle.model.specs.Arbiter.{headOf, nextHeir, granted, grantedHead, clockRaised, failFormer, inquireOrFail, answers, queuedUp, onRequest, inquireIfBefore, headNamed, heirTakesOver, holderReleases, fromHolder, isEarly, earlyRelease, onRelease, onYield}
+use Rattle.model.specs.Site.{failedSet, yielded, allHeld, entered, taken, enteredOrYielded, takes, onReply, remembered, yieldedOrRemembered, onInquire, mustYield, yieldedIf, yieldedUpTo, onFail, onTransfer}
+use Rattle.model.specs.Deliver.{between, delivered}
+use Rattle.model.specs.Shape.{isNumber, isGiven, setsShaped, acceptedShaped, modeShaped, siteBlank, siteShaped, sitesShaped, holderShaped, arbiterShaped, arbitersShaped, entryShaped, heldShaped, inquiredShaped, heirShaped, queuedShaped, everywhere, numberShaped, aboutShaped, messageShaped, messagesShaped, tablesShaped, wellShaped}
+use Rattle.model.specs.Event.{actor, sitesNamed, takenOff, attempt, numbersUpTo, numbersFit, limitCode, blankMessage, padded, accepted, settled, judged, event}
+use Rattle.model.specs.Run.{fresh, waitingCount}
+use Rattle.player_grammar.specs.Grammar.{allDigits, noLeadingZero, value, number, longer, parts, before, allNumbers, numbers, ascends, siteBit, withSites, setLine, one, moveLine, starts, form, meaningOf}
+use Rattle.player_printing.specs.Printing.{digits, decimal, stepLine}
+use Rattle.player_text.specs.Player.{counted, sizeIn, setIn, eventIn, onSize, allGiven, onSet, printedLine, onEvent, atStage, onLine, endsAt, onEnd, start, transcript, output}
+use Rattle.model.specs.Printed.{Line, insideUpTo, lineOf, printed}
+
+-- step, code, inside, waiting, flying
+abbrev line : ℕ → ℕ → ℕ → ℕ → ℕ → Line
+line s c i w f = record { step = s; code = c; inside = i; waiting = w; flying = f }
+
+-- "sites=2, set=1, set=1"
+abbrev sets : List ℕ
+sets = 1 ∷ 1 ∷ replicate (siteLimit - 2) 0
+
+abbrev events : List Event
+events =
+    Ask 1
+    ∷ Deliver 1 1
+    ∷ Deliver 1 1
+    ∷ Ask 2
+    ∷ Deliver 2 1
+    ∷ Deliver 1 1
+    ∷ Leave 1
+    ∷ Deliver 1 2
+    ∷ Deliver 1 2
+    ∷ Leave 2
+    ∷ Deliver 2 1
+    ∷ Deliver 1 1
+    ∷ Deliver 1 1
+    ∷ []
+
+pub printedExample :
+    printed 1 (fresh 2 sets (replicate messageLimit blankMessage)) events
+    ≡ line 1 0 0 1 1
+    ∷ line 2 0 0 1 1
+    ∷ line 3 0 1 0 0
+    ∷ line 4 0 1 1 1
+    ∷ line 5 0 1 1 2
+    ∷ line 6 0 1 1 1
+    ∷ line 7 0 0 1 3
+    ∷ line 8 0 0 1 2
+    ∷ line 9 0 2 0 1
+    ∷ line 10 0 0 0 2
+    ∷ line 11 0 0 0 1
+    ∷ line 12 0 0 0 0
+    ∷ line 13 7 0 0 0
+    ∷ []
+unfolding at put cell all any count member meet names sizeListed allName meetsEarlier allMeet setupCode keptSets freshRig freshTables deskOf withDesk comesBefore headWith head requests asked handOn handOns left headOf nextHeir granted grantedHead clockRaised failFormer inquireOrFail answers queuedUp onRequest inquireIfBefore headNamed heirTakesOver holderReleases fromHolder isEarly earlyRelease onRelease onYield failedSet yielded allHeld entered taken enteredOrYielded takes onReply remembered yieldedOrRemembered onInquire mustYield yieldedIf yieldedUpTo onFail onTransfer between first withoutFirst delivered isNumber isGiven setsShaped acceptedShaped modeShaped siteBlank siteShaped sitesShaped holderShaped arbiterShaped arbitersShaped entryShaped heldShaped inquiredShaped heirShaped queuedShaped everywhere numberShaped aboutShaped messageShaped messagesShaped tablesShaped wellShaped actor sitesNamed takenOff attempt numbersUpTo numbersFit limitCode padded accepted settled judged event fresh waitingCount lowest insideUpTo lineOf printed
+printedExample = refl
+
+-- the bytes of a text of ASCII characters
+abbrev toBytes : String → List ℕ
+toBytes []ˢ = []
+toBytes (c ∷ˢ s) = code c ∷ toBytes s
+
+-- lines, each with byte 10 behind it
+abbrev asText : List String → List ℕ
+asText [] = []
+asText (line ∷ lines) = toBytes line ++ (10 ∷ asText lines)
+
+-- "Input, one line each", and "Output, whole"
+pub printedText :
+    output (asText (
+    "sites=2"
+    ∷ "set=1"
+    ∷ "set=1"
+    ∷ "ask=1"
+    ∷ "move=1,1"
+    ∷ "move=1,1"
+    ∷ "ask=2"
+    ∷ "move=2,1"
+    ∷ "move=1,1"
+    ∷ "leave=1"
+    ∷ "move=1,2"
+    ∷ "move=1,2"
+    ∷ "leave=2"
+    ∷ "move=2,1"
+    ∷ "move=1,1"
+    ∷ "move=1,1"
+    ∷ []))
+    ≡ asText (
+    "step=1 code=0 inside=0 waiting=1 flying=1"
+    ∷ "step=2 code=0 inside=0 waiting=1 flying=1"
+    ∷ "step=3 code=0 inside=1 waiting=0 flying=0"
+    ∷ "step=4 code=0 inside=1 waiting=1 flying=1"
+    ∷ "step=5 code=0 inside=1 waiting=1 flying=2"
+    ∷ "step=6 code=0 inside=1 waiting=1 flying=1"
+    ∷ "step=7 code=0 inside=0 waiting=1 flying=3"
+    ∷ "step=8 code=0 inside=0 waiting=1 flying=2"
+    ∷ "step=9 code=0 inside=2 waiting=0 flying=1"
+    ∷ "step=10 code=0 inside=0 waiting=0 flying=2"
+    ∷ "step=11 code=0 inside=0 waiting=0 flying=1"
+    ∷ "step=12 code=0 inside=0 waiting=0 flying=0"
+    ∷ "step=13 code=7 inside=0 waiting=0 flying=0"
+    ∷ [])
+unfolding at put cell all any count member meet names sizeListed allName meetsEarlier allMeet setupCode keptSets freshRig freshTables deskOf withDesk comesBefore headWith head requests asked handOn handOns left headOf nextHeir granted grantedHead clockRaised failFormer inquireOrFail answers queuedUp onRequest inquireIfBefore headNamed heirTakesOver holderReleases fromHolder isEarly earlyRelease onRelease onYield failedSet yielded allHeld entered taken enteredOrYielded takes onReply remembered yieldedOrRemembered onInquire mustYield yieldedIf yieldedUpTo onFail onTransfer between first withoutFirst delivered isNumber isGiven setsShaped acceptedShaped modeShaped siteBlank siteShaped sitesShaped holderShaped arbiterShaped arbitersShaped entryShaped heldShaped inquiredShaped heirShaped queuedShaped everywhere numberShaped aboutShaped messageShaped messagesShaped tablesShaped wellShaped actor sitesNamed takenOff attempt numbersUpTo numbersFit limitCode padded accepted settled judged event fresh waitingCount lowest insideUpTo lineOf printed allDigits noLeadingZero value number longer parts before allNumbers numbers ascends siteBit withSites setLine one moveLine starts form meaningOf digits decimal stepLine counted sizeIn setIn eventIn onSize allGiven onSet printedLine onEvent atStage onLine endsAt onEnd start transcript output
+printedText = refl

@@ -1,0 +1,70 @@
+-- How a line before the first event may end: the run stops, goes on, or its events begin.
+use Prim.Native.Nat.{ℕ, _+_, _≤_, _<_}
+use mathlib.Core.Path.{_≡_, refl}
+use mathlib.Core.List.{List, [], map}
+use mathlib.Core.Option.{some}
+use native.Mathlib.Numerals.{add-one}
+use lib.ListN.{length, set}
+use borrow.Author.Tests.{le-leb, lt-ltb}
+use Rattle.rig.specs.declared.Rig.{Rig}
+use Rattle.rig.specs.Limits.{siteLimit, messageLimit}
+use Rattle.model.specs.Tables.{put}
+use Rattle.model.specs.Setup.{sizeListed, setupCode, freshRig}
+use Rattle.model.specs.State.{freshTables}
+use Rattle.model.specs.Run.{fresh, run}
+use Rattle.list_rows.specs.Rows.{messageOf}
+use Rattle.player_printing.specs.Printing.{stopLine, Printed}
+use Rattle.player_text.specs.declared.Player.{Player}
+use Rattle.player_text.specs.declared.Said.{Said}
+use Rattle.player_text.specs.declared.Stage.the-variants.{Sets, Events}
+use Rattle.player_text.specs.Player.{Outcome, counted, stopped, onSize, allGiven, onSet}
+use Rattle.player_text.specs.Playing.{text, over, Untouched, Playing, Spoke}
+
+pub nothing : {page : List ℕ} → Printed [] page page 0
+nothing = record { count = refl; text = refl; rest = refl; long = refl }
+
+-- the player once it has N, one set more, or all sets
+module _ (p : Player) (place : ℕ) where
+  abbrev sized : ℕ → Player
+  sized n = record { stage = Sets; line = place; step = p .step; size = n; given = 0; sets = p .sets; rig = p .rig; count = p .count }
+
+  abbrev longer : List ℕ → Player
+  longer sets = record { stage = Sets; line = place; step = p .step; size = p .size; given = p .given + 1; sets = sets; rig = p .rig; count = p .count }
+
+  abbrev started : List ℕ → Rig → Player
+  started sets g = record { stage = Events; line = place; step = p .step; size = p .size; given = p .size; sets = sets; rig = g; count = 0 }
+
+module _ (p : Player) {page : List ℕ} (held heir inquired queued rows : List (List ℕ)) (long : length rows ≡ messageLimit) where
+  pub stops : {after : List ℕ} (r : Said) (code line : ℕ) → (r .player ≡ over p) × Printed (stopLine code line) page after (r .printed)
+      → (o : Outcome) → o ≡ stopped (text p held heir inquired queued rows) code line
+      → Spoke o (text (r .player) held heir inquired queued rows) page after (r .printed) × Playing (r .player) held heir inquired queued rows
+  unfolding stopped
+  stops r code line e o h = rw (h, e .0) (record { known = refl; printed = e .1 }, record { long = long; fits = tt })
+
+  module _ (untouched : Untouched held heir inquired queued rows) (place : ℕ) (counts : place ≡ counted (p .line)) where
+    -- `sites=`
+    pub takes-size : (n : ℕ) → 1 ≤ n → n ≤ siteLimit
+        → Spoke (onSize (text p held heir inquired queued rows) (some n)) (text (sized p place n) held heir inquired queued rows) page page 0
+        × Playing (sized p place n) held heir inquired queued rows
+    unfolding onSize sizeListed
+    takes-size n low high = rw (counts, le-leb 1 n low, le-leb n siteLimit high) (record { known = refl; printed = nothing }, record { long = long; fits = (untouched, high, low) })
+
+    -- one of the sets, not the last
+    pub takes-set : (v : ℕ) → p .size ≤ siteLimit → p .given + 1 < p .size
+        → Spoke (onSet (text p held heir inquired queued rows) (some v)) (text (longer p place (set (p .sets) (p .given) v)) held heir inquired queued rows) page page 0
+        × Playing (longer p place (set (p .sets) (p .given) v)) held heir inquired queued rows
+    unfolding onSet put
+    takes-set v high less = rw (counts, lt-ltb (p .given + 1) (p .size) less) (record { known = rw add-one; printed = nothing }, record { long = long; fits = (untouched, high, less) })
+
+    -- the last one: sets that pass
+    pub starts : (sets : List ℕ) (g : Rig) → setupCode (p .size) sets ≡ 0 → g ≡ freshRig (p .size) sets
+        → Spoke (allGiven (text p held heir inquired queued rows) sets) (text (started p place sets g) held heir inquired queued rows) page page 0
+        × Playing (started p place sets g) held heir inquired queued rows
+    unfolding allGiven fresh freshTables run
+    starts sets g e f = rw (counts, e, f, untouched .noneHeld, untouched .noHeir, untouched .noneInquired, untouched .noneQueued) (
+      record { known = refl; printed = nothing },
+      record {
+        long = long;
+        fits = (record { size = p .size; sets = sets; list = map messageOf rows; events = []; passed = e; same = refl }, untouched .noneUnderWay);
+      },
+    )

@@ -1,0 +1,140 @@
+// What a site does when it asks for its members' permissions, and when it leaves.
+use list_rows::Acted;
+use list_rows::Row;
+use members::is_member;
+use rig::Desk;
+use rig::Message;
+use rig::Mode;
+use rig::Rig;
+use rig::Site;
+ghost use mathlib.Core.Path.{_≡_};
+ghost use Prim.Native.Nat.{_<_, _≤_, _+_};
+ghost use lib.ListN.{length};
+ghost use Rattle.rig.specs.Limits.{numberLimit};
+ghost use Rattle.model.specs.Desk.{withSite, withoutEntries};
+ghost use Rattle.model.specs.Ask.{requests, asked};
+ghost use Rattle.model.specs.Leave.{handOn, handOns, left};
+ghost use Rattle.list_rows.specs.Did.{Did, Sent};
+ghost use Rattle.site_ask_leave.specs.Needs.{AskFits, LeaveFits};
+ghost use Rattle.site_ask_leave.specs.Turns.{requestIf, handOnIf};
+
+// The desk with no entries, and with the given site.
+fn cleared(d: Desk, site: Site) -> Desk
+    ensures { λ r. ⌜ r ≡ withSite (withoutEntries d) site ⌝ }
+{
+    let mut e = d;
+    e.site = site;
+    e.held = [0; Rig::SITES];
+    e.heir = [0; Rig::SITES];
+    e.inquired = [0; Rig::SITES];
+    e
+}
+
+// One turn of the ask: the request to site j, if it is in the set.
+fn request_member(number: u64, set: u64, seq: u64, j: u64, out: &mut [Row], count: usize) -> usize
+    requires { ⌜ count < length (now out) ⌝ }
+    ensures { λ r. ⌜ Sent (requestIf number set seq j) count (now (out .entry)) (now (out .exit)) r ⌝ }
+{
+    if is_member(set, j) {
+        return list_rows::append(out, count, Message::request(number, j, seq));
+    }
+    count
+}
+
+// The requests to the members, ascending.
+fn request_members(d: Desk, seq: u64, out: &mut [Row], count: usize) -> usize
+    requires { ⌜ AskFits d count (now out) ⌝ }
+    ensures { λ r. ⌜ Sent (requests d seq (d .size)) count (now (out .entry)) (now (out .exit)) r ⌝ }
+{
+    let mut n = count;
+    for m in 0..d.size {
+        n = request_member(d.number, d.members, seq, m + 1, out, n);
+    }
+    n
+}
+
+// An inner call: the site asks.
+pub fn ask(d: Desk, out: &mut [Row], count: usize) -> Acted
+    requires { ⌜ AskFits d count (now out) ⌝ }
+    ensures { λ r. ⌜ Did (asked d) count (now (out .entry)) (now (out .exit)) r ⌝ }
+{
+    let s = d.site;
+    let seq = s.clock + 1;
+    let sent = request_members(d, seq, out, count);
+    let site = Site {
+        mode: Mode::Waiting {
+            seq: seq,
+            failed: false,
+        },
+        clock: seq,
+    };
+    Acted {
+        desk: cleared(d, site),
+        count: sent,
+    }
+}
+
+// What site `number` sends on for arbiter j, held with number g, with heir k (0 none).
+fn hand_on(number: u64, j: u64, k: u64, g: u64, out: &mut [Row], count: usize) -> usize
+    requires { ⌜ (g ≤ numberLimit) × (count + 2 ≤ length (now out)) ⌝ }
+    ensures { λ r. ⌜ Sent (handOn number j k g) count (now (out .entry)) (now (out .exit)) r ⌝ }
+{
+    if k == 0 {
+        return list_rows::append(out, count, Message::release(number, j, 0, g));
+    }
+    let n = list_rows::append(out, count, Message::reply(number, k, j, g + 1));
+    list_rows::append(out, n, Message::release(number, j, k, g))
+}
+
+// One turn of the leave: what is sent on for arbiter j, if it is in the set and held.
+fn hand_on_member(
+    number: u64,
+    set: u64,
+    j: u64,
+    k: u64,
+    g: u64,
+    out: &mut [Row],
+    count: usize,
+) -> usize
+    requires { ⌜ (g ≤ numberLimit) × (count + 2 ≤ length (now out)) ⌝ }
+    ensures { λ r. ⌜ Sent (handOnIf number set j k g) count (now (out .entry)) (now (out .exit)) r ⌝ }
+{
+    if !is_member(set, j) {
+        return count;
+    }
+    if g == 0 {
+        return count;
+    }
+    hand_on(number, j, k, g, out, count)
+}
+
+// What is sent on for each member held, ascending.
+fn hand_on_members(d: Desk, out: &mut [Row], count: usize) -> usize
+    requires { ⌜ LeaveFits d count (now out) ⌝ }
+    ensures { λ r. ⌜ Sent (handOns d (d .size)) count (now (out .entry)) (now (out .exit)) r ⌝ }
+{
+    let mut n = count;
+    for i in 0..d.size {
+        let k = d.heir[i as usize];
+        let g = d.held[i as usize];
+        n = hand_on_member(d.number, d.members, i + 1, k, g, out, n);
+    }
+    n
+}
+
+// An inner call: the site leaves.
+pub fn leave(d: Desk, out: &mut [Row], count: usize) -> Acted
+    requires { ⌜ LeaveFits d count (now out) ⌝ }
+    ensures { λ r. ⌜ Did (left d) count (now (out .entry)) (now (out .exit)) r ⌝ }
+{
+    let sent = hand_on_members(d, out, count);
+    let s = d.site;
+    let site = Site {
+        mode: Mode::Rest,
+        clock: s.clock,
+    };
+    Acted {
+        desk: cleared(d, site),
+        count: sent,
+    }
+}

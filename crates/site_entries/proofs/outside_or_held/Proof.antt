@@ -1,0 +1,17 @@
+-- `outside_or_held`: the test of one site.
+use mathlib.Core.Path.{sym, _∙_}
+use borrow.Author.Needs.{needs}
+use Rattle.site_entries.proofs.outside_or_held.Statement.{statement}
+use Rattle.site_entries.proofs.outside_or_held.Tie as tie
+
+is-member-requires : tie.Need-is-member-requires
+is-member-requires c κs = search needs
+
+returns : tie.Need-returns
+returns c = rw (sym (c .before .is-member .ensures) ∙ c .if1 .taken)
+
+returns-2 : tie.Need-returns-2
+returns-2 c = rw (sym (c .before .is-member .ensures) ∙ c .if1 .left)
+
+pub outside-or-held-spec : {M : Type 1} → statement M
+outside-or-held-spec = tie.close (tie.spec is-member-requires returns returns-2)

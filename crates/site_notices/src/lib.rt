@@ -1,0 +1,148 @@
+// What a site does with a reply, an inquire, a fail or a transfer.
+use list_rows::Acted;
+use list_rows::Row;
+use rig::Desk;
+ghost use Prim.Native.Nat.{_<_, _≤_, _+_};
+ghost use lib.ListN.{length};
+ghost use Rattle.model.specs.Site.{enteredOrYielded, onReply, yieldedOrRemembered, onInquire, onFail, onTransfer};
+ghost use Rattle.list_rows.specs.Did.{Did};
+ghost use Rattle.rig.specs.Limits.{siteLimit, Listed};
+
+// What follows once a number is held for j: the site is inside, or yields j, or waits on.
+fn enter_or_yield(d: Desk, j: u64, out: &mut [Row], count: usize) -> Acted
+    requires { ⌜ Listed j × (d .size ≤ siteLimit) × (count < length (now out)) ⌝ }
+    ensures { λ r. ⌜ Did (enteredOrYielded d j) count (now (out .entry)) (now (out .exit)) r ⌝ }
+{
+    if site_entries::all_held(d) {
+        return Acted {
+            desk: site_entries::enter(d),
+            count: count,
+        };
+    }
+    let s = d.site;
+    if !modes::has_failed(s) {
+        return Acted {
+            desk: d,
+            count: count,
+        };
+    }
+    let i = (j - 1) as usize;
+    let q = d.inquired[i];
+    if q == 0 {
+        return Acted {
+            desk: d,
+            count: count,
+        };
+    }
+    site_yields::yield_member(d, j, out, count)
+}
+
+// An inner call: a reply about j, with number n.
+pub fn on_reply(d: Desk, j: u64, n: u64, out: &mut [Row], count: usize) -> Acted
+    requires { ⌜ Listed j × (d .size ≤ siteLimit) × (count < length (now out)) ⌝ }
+    ensures { λ r. ⌜ Did (onReply d j n) count (now (out .entry)) (now (out .exit)) r ⌝ }
+{
+    let s = d.site;
+    if !modes::is_waiting(s) {
+        return Acted {
+            desk: d,
+            count: count,
+        };
+    }
+    if !members::is_member(d.members, j) {
+        return Acted {
+            desk: d,
+            count: count,
+        };
+    }
+    let i = (j - 1) as usize;
+    let g = d.held[i];
+    if g != 0 {
+        return Acted {
+            desk: d,
+            count: count,
+        };
+    }
+    enter_or_yield(site_entries::take(d, j, n), j, out, count)
+}
+
+// What a waiting site does with an inquire from j, with number n.
+fn yield_or_remember(d: Desk, j: u64, n: u64, out: &mut [Row], count: usize) -> Acted
+    requires { ⌜ Listed j × (count < length (now out)) ⌝ }
+    ensures { λ r. ⌜ Did (yieldedOrRemembered d j n) count (now (out .entry)) (now (out .exit)) r ⌝ }
+{
+    let i = (j - 1) as usize;
+    let g = d.held[i];
+    if g == 0 {
+        let e = site_entries::remember(d, j, n);
+        return Acted {
+            desk: e,
+            count: count,
+        };
+    }
+    if n != g {
+        return Acted {
+            desk: d,
+            count: count,
+        };
+    }
+    let s = d.site;
+    if modes::has_failed(s) {
+        return site_yields::yield_member(d, j, out, count);
+    }
+    Acted {
+        desk: site_entries::remember(d, j, n),
+        count: count,
+    }
+}
+
+// An inner call: an inquire from j, with number n.
+pub fn on_inquire(d: Desk, j: u64, n: u64, out: &mut [Row], count: usize) -> Acted
+    requires { ⌜ Listed j × (count < length (now out)) ⌝ }
+    ensures { λ r. ⌜ Did (onInquire d j n) count (now (out .entry)) (now (out .exit)) r ⌝ }
+{
+    let s = d.site;
+    if !modes::is_waiting(s) {
+        return Acted {
+            desk: d,
+            count: count,
+        };
+    }
+    yield_or_remember(d, j, n, out, count)
+}
+
+// An inner call: a fail.
+pub fn on_fail(d: Desk, out: &mut [Row], count: usize) -> Acted
+    requires { ⌜ (d .size ≤ siteLimit) × (count + siteLimit ≤ length (now out)) ⌝ }
+    ensures { λ r. ⌜ Did (onFail d) count (now (out .entry)) (now (out .exit)) r ⌝ }
+{
+    let s = d.site;
+    if !modes::is_waiting(s) {
+        return Acted {
+            desk: d,
+            count: count,
+        };
+    }
+    site_yields::yield_members(site_entries::failed_set(d), out, count)
+}
+
+// An inner call: a transfer from j that names x, with number n.
+pub fn on_transfer(d: Desk, j: u64, x: u64, n: u64, out: &mut [Row], count: usize) -> Acted
+    requires { ⌜ Listed j ⌝ }
+    ensures { λ r. ⌜ Did (onTransfer d j x n) count (now (out .entry)) (now (out .exit)) r ⌝ }
+{
+    let i = (j - 1) as usize;
+    let g = d.held[i];
+    if n == g {
+        let mut e = d;
+        e.heir[i] = x;
+        return Acted {
+            desk: e,
+            count: count,
+        };
+    }
+    Acted {
+        desk: d,
+        count: count,
+    }
+}
