@@ -13,7 +13,7 @@ ghost use mathlib.Core.Path.{_≡_};
 ghost use mathlib.Core.List.{[], _∷_};
 ghost use Prim.Native.Nat.{_+_, _≤_};
 ghost use lib.ListN.{length};
-ghost use Rattle.rig.specs.Limits.{Listed};
+ghost use Rattle.rig.specs.Limits.{SiteNumber};
 ghost use Rattle.rig.specs.Messages.{inquire, transfer};
 ghost use Rattle.model.specs.Arbiter.{heldBy, nextHeir, granted, grantedHead};
 ghost use Rattle.list_rows.specs.Did.{Did, Sent};
@@ -60,7 +60,7 @@ fn next_heir(d: Desk, out: &mut [Row], count: usize) -> usize
 
 // An inner call: grants k, which asked with sequence number n.
 pub fn grant(d: Desk, out: &mut [Row], count: usize, k: u64, n: u64) -> Acted
-    requires { ⌜ Room d 1 2 count (now out) × Listed k ⌝ }
+    requires { ⌜ Room d 1 2 count (now out) × SiteNumber k ⌝ }
     ensures { λ r. ⌜ Did (granted d k n) count (now (out .entry)) (now (out .exit)) r ⌝ }
 {
     let u = held_by(requeued(d, k, 0), d.arbiter.grant + 1, k, n);

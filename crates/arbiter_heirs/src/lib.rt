@@ -11,7 +11,7 @@ use arbiter_queue::head;
 use arbiter_queue::queued_at;
 use arbiter_queue::requeued;
 use rig::Desk;
-ghost use Rattle.rig.specs.Limits.{Listed};
+ghost use Rattle.rig.specs.Limits.{SiteNumber};
 ghost use Rattle.model.specs.Arbiter.{headNamed, heirTakesOver};
 ghost use Rattle.list_rows.specs.Did.{Did, Sent};
 ghost use Rattle.arbiter_grants.specs.Needs.{Room};
@@ -34,7 +34,7 @@ fn head_named(d: Desk, out: &mut [Row], count: usize) -> usize
 
 // An inner call: queued site x, the heir of the holder, which has released, holds the permission now.
 pub fn heir_takes_over(d: Desk, out: &mut [Row], count: usize, x: u64) -> Acted
-    requires { ⌜ Room d 1 2 count (now out) × Listed x ⌝ }
+    requires { ⌜ Room d 1 2 count (now out) × SiteNumber x ⌝ }
     ensures { λ r. ⌜ Did (heirTakesOver d x) count (now (out .entry)) (now (out .exit)) r ⌝ }
 {
     let n = queued_at(&d.queued, x);

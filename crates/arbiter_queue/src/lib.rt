@@ -4,7 +4,7 @@ use rig::Desk;
 use rig::Rig;
 ghost use mathlib.Core.Path.{_≡_};
 ghost use Prim.Native.Nat.{_+_, _≤_, _<_};
-ghost use Rattle.rig.specs.Limits.{siteLimit, Listed};
+ghost use Rattle.rig.specs.Limits.{siteLimit, SiteNumber};
 ghost use Rattle.model.specs.Tables.{at};
 ghost use Rattle.model.specs.Priority.{key, comesBefore, queuedKey, headWith, head};
 ghost use Rattle.model.specs.Arbiter.{withQueued};
@@ -21,7 +21,7 @@ fn comes_before(seq: u64, site: u64, other_seq: u64, other_site: u64) -> bool
 
 // An inner call: the sequence number queued of site k, 0 none.
 pub fn queued_at(queued: &[u64; Rig::SITES], k: u64) -> u64
-    requires { ⌜ Listed k ⌝ }
+    requires { ⌜ SiteNumber k ⌝ }
     ensures { λ r. ⌜ r ≡ at 0 (now (queued .entry)) k ⌝ }
 {
     queued[(k - 1) as usize]
@@ -29,7 +29,7 @@ pub fn queued_at(queued: &[u64; Rig::SITES], k: u64) -> u64
 
 // The head, once site k is looked at: h is the head of the sites below k, 0 none.
 fn head_with(queued: &[u64; Rig::SITES], k: u64, h: u64) -> u64
-    requires { ⌜ Listed k × (h ≤ siteLimit) ⌝ }
+    requires { ⌜ SiteNumber k × (h ≤ siteLimit) ⌝ }
     ensures { λ r. ⌜ r ≡ headWith (now (queued .entry)) k h ⌝ }
 {
     let seq = queued_at(queued, k);
@@ -59,7 +59,7 @@ pub fn head(queued: &[u64; Rig::SITES], size: u64) -> u64
 
 // An inner call: the desk with n as what is queued of site k.
 pub fn requeued(d: Desk, k: u64, n: u64) -> Desk
-    requires { ⌜ Listed k ⌝ }
+    requires { ⌜ SiteNumber k ⌝ }
     ensures { λ r. ⌜ r ≡ withQueued d k n ⌝ }
 {
     let mut u = d;
@@ -69,7 +69,7 @@ pub fn requeued(d: Desk, k: u64, n: u64) -> Desk
 
 // An inner call: whether queued site k comes before the holder.
 pub fn before_holder(queued: &[u64; Rig::SITES], a: Arbiter, k: u64) -> bool
-    requires { ⌜ Listed k ⌝ }
+    requires { ⌜ SiteNumber k ⌝ }
     ensures { λ r. ⌜ r ≡ comesBefore (queuedKey (now (queued .entry)) k) (key (a .seq) (a .holder)) ⌝ }
 {
     comes_before(queued_at(queued, k), k, a.seq, a.holder)

@@ -10,7 +10,7 @@ use arbiter_queue::requeued;
 use rig::Desk;
 ghost use mathlib.Core.Path.{_≡_};
 ghost use Prim.Native.Nat.{_+_, _^_, _≤_, _<_};
-ghost use Rattle.rig.specs.Limits.{siteLimit, Listed};
+ghost use Rattle.rig.specs.Limits.{siteLimit, SiteNumber};
 ghost use Rattle.model.specs.Arbiter.{holderReleases, fromHolder, isEarly, earlyRelease, onRelease, onYield};
 ghost use Rattle.list_rows.specs.Did.{Did};
 ghost use Rattle.arbiter_grants.specs.Needs.{Room};
@@ -44,7 +44,7 @@ fn from_holder(d: Desk, k: u64, n: u64) -> bool
 
 // Whether a release came before the arbiter knew that k holds the permission.
 fn is_early(d: Desk, k: u64, x: u64, n: u64) -> bool
-    requires { ⌜ Listed k × (d .arbiter .grant + 1 < 2 ^ 64) ⌝ }
+    requires { ⌜ SiteNumber k × (d .arbiter .grant + 1 < 2 ^ 64) ⌝ }
     ensures { λ r. ⌜ r ≡ isEarly d k x n ⌝ }
 {
     if n != d.arbiter.grant + 1 {
@@ -58,7 +58,7 @@ fn is_early(d: Desk, k: u64, x: u64, n: u64) -> bool
 
 // The release of queued site k, which got the permission from the holder.
 fn early_release(d: Desk, out: &mut [Row], count: usize, k: u64) -> Acted
-    requires { ⌜ Room d 2 2 count (now out) × Listed k ⌝ }
+    requires { ⌜ Room d 2 2 count (now out) × SiteNumber k ⌝ }
     ensures { λ r. ⌜ Did (earlyRelease d k) count (now (out .entry)) (now (out .exit)) r ⌝ }
 {
     let u = held_by(requeued(d, k, 0), d.arbiter.grant + 1, 0, 0);
@@ -67,7 +67,7 @@ fn early_release(d: Desk, out: &mut [Row], count: usize, k: u64) -> Acted
 
 // An inner call: a release from k with number n; x is the heir that it names, 0 none.
 pub fn on_release(d: Desk, out: &mut [Row], count: usize, k: u64, x: u64, n: u64) -> Acted
-    requires { ⌜ Room d 2 2 count (now out) × Listed k × (x ≤ siteLimit) ⌝ }
+    requires { ⌜ Room d 2 2 count (now out) × SiteNumber k × (x ≤ siteLimit) ⌝ }
     ensures { λ r. ⌜ Did (onRelease d k x n) count (now (out .entry)) (now (out .exit)) r ⌝ }
 {
     if from_holder(d, k, n) {
@@ -84,7 +84,7 @@ pub fn on_release(d: Desk, out: &mut [Row], count: usize, k: u64, x: u64, n: u64
 
 // An inner call: a yield from k with number n.
 pub fn on_yield(d: Desk, out: &mut [Row], count: usize, k: u64, n: u64) -> Acted
-    requires { ⌜ Room d 1 2 count (now out) × Listed k ⌝ }
+    requires { ⌜ Room d 1 2 count (now out) × SiteNumber k ⌝ }
     ensures { λ r. ⌜ Did (onYield d k n) count (now (out .entry)) (now (out .exit)) r ⌝ }
 {
     if !from_holder(d, k, n) {

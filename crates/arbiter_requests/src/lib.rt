@@ -14,7 +14,7 @@ use rig::Desk;
 use rig::Message;
 ghost use mathlib.Core.Path.{_≡_};
 ghost use Prim.Native.Nat.{_≤_};
-ghost use Rattle.rig.specs.Limits.{siteLimit, Listed};
+ghost use Rattle.rig.specs.Limits.{siteLimit, SiteNumber};
 ghost use Rattle.model.specs.Arbiter.{clockRaised, failFormer, inquireOrFail, answers, queuedUp, onRequest};
 ghost use Rattle.list_rows.specs.Did.{Did, Sent};
 ghost use Rattle.arbiter_grants.specs.Needs.{Room};
@@ -50,7 +50,7 @@ fn fail_former(d: Desk, out: &mut [Row], count: usize, k: u64, former: u64) -> u
 
 // An inquire to the holder if k comes before it, else a fail to k.
 fn inquire_or_fail(d: Desk, k: u64) -> Message
-    requires { ⌜ Listed k ⌝ }
+    requires { ⌜ SiteNumber k ⌝ }
     ensures { λ r. ⌜ r ≡ inquireOrFail d k ⌝ }
 {
     if before_holder(&d.queued, d.arbiter, k) {
@@ -61,7 +61,7 @@ fn inquire_or_fail(d: Desk, k: u64) -> Message
 
 // The answers to k, which has been queued; `former` was the head before, 0 none.
 fn answers(d: Desk, out: &mut [Row], count: usize, k: u64, former: u64) -> usize
-    requires { ⌜ Room d 0 3 count (now out) × Listed k × (former ≤ siteLimit) ⌝ }
+    requires { ⌜ Room d 0 3 count (now out) × SiteNumber k × (former ≤ siteLimit) ⌝ }
     ensures { λ r. ⌜ Sent (answers d k former) count (now (out .entry)) (now (out .exit)) r ⌝ }
 {
     if head(&d.queued, d.size) != k {
@@ -75,7 +75,7 @@ fn answers(d: Desk, out: &mut [Row], count: usize, k: u64, former: u64) -> usize
 
 // Queues k with sequence number n, while another site holds the permission.
 fn queue_up(d: Desk, out: &mut [Row], count: usize, k: u64, n: u64) -> Acted
-    requires { ⌜ Room d 0 3 count (now out) × Listed k ⌝ }
+    requires { ⌜ Room d 0 3 count (now out) × SiteNumber k ⌝ }
     ensures { λ r. ⌜ Did (queuedUp d k n) count (now (out .entry)) (now (out .exit)) r ⌝ }
 {
     let former = head(&d.queued, d.size);
@@ -89,7 +89,7 @@ fn queue_up(d: Desk, out: &mut [Row], count: usize, k: u64, n: u64) -> Acted
 
 // An inner call: a request from k with sequence number n.
 pub fn on_request(d: Desk, out: &mut [Row], count: usize, k: u64, n: u64) -> Acted
-    requires { ⌜ Room d 1 3 count (now out) × Listed k ⌝ }
+    requires { ⌜ Room d 1 3 count (now out) × SiteNumber k ⌝ }
     ensures { λ r. ⌜ Did (onRequest d k n) count (now (out .entry)) (now (out .exit)) r ⌝ }
 {
     let u = clock_raised(d, n);

@@ -10,7 +10,7 @@ use borrow.Author.Tests.{eqb-true, leb-true, ne-eqb}
 use Rattle.basics.specs.Helpers.{all}
 use Rattle.basics.proofs.Basics.{by-bool, and-split, or-either, all-at, clash}
 use Rattle.rig.specs.declared.Message.{Message}
-use Rattle.rig.specs.Limits.{siteLimit, numberLimit, Listed}
+use Rattle.rig.specs.Limits.{siteLimit, numberLimit, SiteNumber}
 use Rattle.rig.specs.Messages.{REPLY}
 use Rattle.model.specs.State.{Tables, sizeOf, inRange, hasMember, siteOf, modeOf, arbiterOf, heldOf}
 use Rattle.model.specs.Shape.{isNumber, modeShaped, siteShaped, sitesShaped, arbiterShaped, arbitersShaped, setsShaped, acceptedShaped, entryShaped, heldShaped, everywhere, messageShaped, aboutShaped, numberShaped, tablesShaped, wellShaped}
@@ -25,7 +25,7 @@ module _ (t : Tables) (ms : List Message) (w : wellShaped t ms ≡ true) where
   pub size : sizeOf t ≤ siteLimit
   size = shaped t ms w .sets .high
 
-  pub listed : (k : ℕ) → inRange t k ≡ true → Listed k
+  pub listed : (k : ℕ) → inRange t k ≡ true → SiteNumber k
   listed k e = let r = within t k e in let s = size in record { low = r .0; high = omega (arith, r .1) }
 
   -- each table's test
@@ -72,16 +72,16 @@ module _ (t : Tables) (ms : List Message) (w : wellShaped t ms ≡ true) where
         let b = and-split (inRange t (m .to)) _ (a .1) in
         (a .0, b .0, and-split (numberShaped m) (aboutShaped t m) (b .1) .1)
 
-    pub sender : Listed (m .from)
+    pub sender : SiteNumber (m .from)
     sender = listed (m .from) (ends .0)
 
     -- a site that is tied to an arbiter, and the arbiter
-    tied-listed : (k j : ℕ) → hasMember t k j ≡ true → Listed k × Listed j
+    tied-listed : (k j : ℕ) → hasMember t k j ≡ true → SiteNumber k × SiteNumber j
     tied-listed k j h =
         let s = ties t ms (shaped t ms w) k j h in
         let n = size in (record { low = s .0; high = omega (arith, s .1) }, record { low = s .2; high = omega (arith, s .3) })
 
-    pub about-arbiter : m .kind ≡ REPLY → Listed (m .about)
+    pub about-arbiter : m .kind ≡ REPLY → SiteNumber (m .about)
     unfolding aboutShaped
     about-arbiter k = tied-listed (m .to) (m .about) (rw k at (ends .2)) .1
 

@@ -5,14 +5,14 @@ use mathlib.Core.List.{List}
 use lib.ListN.{length}
 use Rattle.rig.specs.declared.Desk.{Desk}
 use Rattle.rig.specs.declared.Message.{Message}
-use Rattle.rig.specs.Limits.{siteLimit, numberLimit, Listed}
+use Rattle.rig.specs.Limits.{siteLimit, numberLimit, SiteNumber}
 use Rattle.rig.specs.Messages.{REPLY}
 
 -- at most 31 sites, a grant number in its range, a message between sites, and room for 31 messages behind the first n
 pub record Fits (d : Desk) (m : Message) (n : ℕ) (rows : List (List ℕ)) : Type 0 where
   pub size : d .size ≤ siteLimit
   pub grant : d .arbiter .grant ≤ numberLimit
-  pub sender : Listed (m .from)
-  pub arbiter : m .kind ≡ REPLY → Listed (m .about)
+  pub sender : SiteNumber (m .from)
+  pub arbiter : m .kind ≡ REPLY → SiteNumber (m .about)
   pub heir : m .about ≤ siteLimit
   pub room : n + siteLimit ≤ length rows

@@ -4,11 +4,11 @@ use rig::Rig;
 use rig::Table;
 ghost use mathlib.Core.Path.{_≡_};
 ghost use Rattle.model.specs.State.{tables, deskOf, withDesk};
-ghost use Rattle.rig.specs.Limits.{Listed};
+ghost use Rattle.rig.specs.Limits.{SiteNumber};
 
 // An inner call: all that site s has.
 pub fn desk(rig: Rig, held: &Table, heir: &Table, inquired: &Table, queued: &Table, s: u64) -> Desk
-    requires { ⌜ Listed s ⌝ }
+    requires { ⌜ SiteNumber s ⌝ }
     ensures { λ r. ⌜ r ≡ deskOf (tables rig (now (held .entry)) (now (heir .entry)) (now (inquired .entry)) (now (queued .entry))) s ⌝ }
 {
     let i = (s - 1) as usize;
@@ -36,7 +36,7 @@ pub fn put_back(
     d: Desk,
     accepted: u64,
 ) -> Rig
-    requires { ⌜ Listed s ⌝ }
+    requires { ⌜ SiteNumber s ⌝ }
     ensures { λ r. ⌜ tables r (now (held .exit)) (now (heir .exit)) (now (inquired .exit)) (now (queued .exit)) ≡ withDesk (tables rig (now (held .entry)) (now (heir .entry)) (now (inquired .entry)) (now (queued .entry))) s d accepted ⌝ }
 {
     let i = (s - 1) as usize;

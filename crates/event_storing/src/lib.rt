@@ -12,7 +12,7 @@ ghost use mathlib.Core.Bool.{cond};
 ghost use Prim.Native.Nat.{_≤_, _+_, _-_};
 ghost use lib.Dec.{ltb};
 ghost use lib.ListN.{length, take};
-ghost use Rattle.rig.specs.Limits.{messageLimit, Listed};
+ghost use Rattle.rig.specs.Limits.{messageLimit, SiteNumber};
 ghost use Rattle.model.specs.Event.{possible, judged};
 ghost use Rattle.list_rows.specs.Places.{without, cleared};
 ghost use Rattle.event_storing.specs.Whole.{stored, answered, tidied, effectOf, staying, Exchanged};
@@ -59,7 +59,7 @@ pub fn conclude(
     a: Acted,
     out: &[Row],
 ) -> Answer
-    requires { ⌜ Listed s × (length (now list) ≡ messageLimit) × (place ≤ count) × (count ≤ messageLimit) × (a .count ≤ length (now out)) ⌝ }
+    requires { ⌜ SiteNumber s × (length (now list) ≡ messageLimit) × (place ≤ count) × (count ≤ messageLimit) × (a .count ≤ length (now out)) ⌝ }
     ensures { λ r. ⌜ (answered r (now (held .exit)) (now (heir .exit)) (now (inquired .exit)) (now (queued .exit)) (tidied r (now (list .exit))) ≡ judged (stored rig (now (held .entry)) (now (heir .entry)) (now (inquired .entry)) (now (queued .entry)) (now (list .entry)) count) s (possible (effectOf a (now (out .entry))) (staying count place (now (list .entry))))) × (cleared count (now (list .entry)) ≡ now (list .entry) → cleared (r .count) (now (list .exit)) ≡ now (list .exit)) ⌝ }
 {
     let d = a.desk;

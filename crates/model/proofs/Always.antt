@@ -12,6 +12,7 @@ use lib.ListN.{length, length-take}
 use borrow.Author.Tests.{eqb-true, eqb-false, eq-eqb, ne-eqb, leb-true, leb-false, le-leb}
 use Rattle.basics.proofs.Basics.{by-bool, clash, and-split, all-of, or-second}
 use Rattle.basics.proofs.Lists.{All}
+use Rattle.rig.specs.declared.Desk.{Desk}
 use Rattle.rig.specs.declared.Event.{Event}
 use Rattle.rig.specs.declared.Message.{Message}
 use Rattle.rig.specs.declared.Mode.{Mode}
@@ -26,11 +27,11 @@ use Rattle.protocol.proofs.RigInvariant.{RigInvariant, clauses-at, all-fit}
 use Rattle.protocol.proofs.Invariant.{numberOf}
 use Rattle.protocol.proofs.Numbers.{RigBelow, SentBelow, step-bounded, run-numbers}
 use Rattle.model.specs.Tables.{at, cell}
-use Rattle.model.specs.Setup.{keptSets, restingSite, freeArbiter}
-use Rattle.model.specs.State.{Tables, seqIn, sizeOf, inRange, hasMember, siteOf, modeOf, arbiterOf, heldOf, heirOf, queuedOf, deskOf, withDesk}
-use Rattle.model.specs.Shape.{isNumber, isGiven, setsShaped, acceptedShaped, modeShaped, siteBlank, siteShaped, sitesShaped, holderShaped, arbiterShaped, arbitersShaped, entryShaped, heldShaped, inquiredShaped, heirShaped, queuedShaped, everywhere, numberShaped, aboutShaped, messageShaped, messagesShaped, tablesShaped, wellShaped}
+use Rattle.model.specs.Setup.{setupCode, keptSets, restingSite, freeArbiter}
+use Rattle.model.specs.State.{Tables, Stored, underWay, seqIn, sizeOf, setsOf, inRange, hasMember, siteOf, modeOf, arbiterOf, heldOf, heirOf, inquiredOf, queuedOf, deskOf, withDesk}
+use Rattle.model.specs.Shape.{isNumber, isGiven, setShaped, modeShaped, siteBlank, siteShaped, holderShaped, arbiterShaped, placeShaped, rigShaped, entryShaped, ownShaped, heirShaped, queuedShaped, everywhere, numberShaped, plainShaped, releaseShaped, aboutShaped, messageShaped, messagesShaped, tablesShaped, wellShaped}
 use Rattle.model.specs.Desk.{Effect}
-use Rattle.model.specs.Event.{actor, sitesNamed, Attempt, refused, possible, numbersUpTo, numbersFit, limitCode, Stored, underWay, settled, judged, event}
+use Rattle.model.specs.Event.{actor, sitesNamed, Attempt, refused, possible, numbersUpTo, numbersFit, limitCode, effectCode, judged, eventAt, settled, event}
 use Rattle.model.specs.Arbiter.{fromHolder, isEarly}
 use Rattle.model.specs.Site.{takes}
 use Rattle.model.specs.Run.{fresh, run, Always}
@@ -76,12 +77,12 @@ unfolding entryShaped
 entry-shaped true n a b = is-number n a
 entry-shaped false n a b = by-bool (eqb n 0) (λ e. e) (λ e. clash false (b (eqb-false n 0 e)) refl)
 
-everywhere-of : (p : ℕ → ℕ → Bool) → ((i j : ℕ) → 1 ≤ i → i ≤ siteLimit → 1 ≤ j → j ≤ siteLimit → p i j ≡ true) → everywhere p ≡ true
+everywhere-of : (p : ℕ → ℕ → ℕ → Bool) (table : List (List ℕ)) → ((i j : ℕ) → p i j (cell table i j) ≡ true) → everywhere p table ≡ true
 unfolding everywhere
-everywhere-of p h = all-of _ siteLimit (λ i a b. all-of (p i) siteLimit (λ j c d. h i j a b c d))
+everywhere-of p table h = all-of _ siteLimit (λ i a b. all-of _ siteLimit (λ j c d. h i j))
 
-in-range : (t : Tables) (k : ℕ) → 1 ≤ k → k ≤ sizeOf t → inRange t k ≡ true
-in-range t k a b = rw (le-leb 1 k a, le-leb k (sizeOf t) b)
+in-range : (n k : ℕ) → 1 ≤ k → k ≤ n → inRange n k ≡ true
+in-range n k a b = rw (le-leb 1 k a, le-leb k n b)
 
 -- the last messages of a list
 last-numbers : (b : ℕ) (xs ys : List Message) → b ≤ numberLimit → numbersUpTo b (xs ++ ys) ≡ true → numbersUpTo numberLimit ys ≡ true
@@ -131,18 +132,12 @@ module _ (n : ℕ) (l : List ℕ) (a : Accepted n l) (past : (k : ℕ) → n < k
   clauses j = clauses-at y (lawful n l a past) state inv j
 
   -- sets and members as the machine has them
-  member-same : (k j : ℕ) → hasMember t k j ≡ y.sets k j
+  member-same : (k j : ℕ) → hasMember (setsOf t) k j ≡ y.sets k j
   member-same k j = rw (r .sets)
 
-  sets-shaped : setsShaped t ≡ true
-  unfolding setsShaped
-  sets-shaped =
-      rw (r .size, r .sets, accepted-code n l a)
-      (all-of _ siteLimit (λ k b c. by-bool (leb k n) (λ e. rw e) (λ e. rw (e, past k (leb-false k n e)))))
-
-  accepted-shaped : acceptedShaped t ≡ true
-  unfolding acceptedShaped
-  accepted-shaped = le-leb (t .rig .accepted) eventLimit (r .bounded)
+  set-shaped : (k : ℕ) → setShaped (sizeOf t) k (at 0 (setsOf t) k) ≡ true
+  unfolding setShaped
+  set-shaped k = rw (r .size, r .sets) (by-bool (leb k n) (λ e. rw e) (λ e. rw (e, past k (leb-false k n e))))
 
   mode-shaped : (m : Mode) (k : ℕ) → modeOf t k ≡ m → modeShaped m ≡ true
   unfolding modeShaped
@@ -155,56 +150,63 @@ module _ (n : ℕ) (l : List ℕ) (a : Accepted n l) (past : (k : ℕ) → n < k
   mode-shaped Inside k e = refl
 
   -- all past N is 0
-  zero-past : (k x : ℕ) → (x ≢ 0 → (1 ≤ k) × (k ≤ n)) → inRange t k ≡ false → eqb x 0 ≡ true
+  zero-past : (k x : ℕ) → (x ≢ 0 → (1 ≤ k) × (k ≤ n)) → inRange (sizeOf t) k ≡ false → eqb x 0 ≡ true
   zero-past k x h e = by-bool (eqb x 0) (λ z. z)
-      (λ z. let w = h (eqb-false x 0 z) in clash (inRange t k) (in-range t k (w .0) (rw (r .size) (w .1))) e)
+      (λ z. let w = h (eqb-false x 0 z) in clash (inRange (sizeOf t) k) (in-range (sizeOf t) k (w .0) (rw (r .size) (w .1))) e)
 
-  site-shaped : (k : ℕ) → siteShaped t k ≡ true
+  site-shaped : (k : ℕ) → siteShaped (sizeOf t) k (siteOf t k) ≡ true
   unfolding siteShaped siteBlank
-  site-shaped k = by-bool (inRange t k)
+  site-shaped k = by-bool (inRange (sizeOf t) k)
       (λ e. rw (e, is-number (siteOf t k .clock) (omega (arith, below .clock k, bound-fits)), mode-shaped (modeOf t k) k refl))
       (λ e. rw (e, zero-past k (siteOf t k .clock) (inv .clockInRange k) e, ← rests-same (modeOf t k), zero-past k (modeNumber (modeOf t k)) (inv .inRange k) e))
 
-  arbiter-shaped : (j : ℕ) → arbiterShaped t j ≡ true
+  arbiter-shaped : (j : ℕ) → arbiterShaped (sizeOf t) (setsOf t) j (arbiterOf t j) ≡ true
   unfolding arbiterShaped holderShaped
   arbiter-shaped j =
       let c = clauses j .holderRange in
       let q = below .rows j .holderSeq in
-      let fits : inRange t j || eqb (arbiterOf t j .grant) 0 ≡ true = by-bool (inRange t j) (λ e. rw e) (λ e. rw (e, zero-past j (arbiterOf t j .grant) (inv .grantInRange j) e)) in
+      let fits : inRange (sizeOf t) j || eqb (arbiterOf t j .grant) 0 ≡ true = by-bool (inRange (sizeOf t) j) (λ e. rw e) (λ e. rw (e, zero-past j (arbiterOf t j .grant) (inv .grantInRange j) e)) in
       rw (is-number (arbiterOf t j .grant) (omega (arith, below .rows j .grant, bound-fits)), fits)
       (by-bool (eqb (arbiterOf t j .holder) 0)
       (λ e. rw (e, eq-eqb (arbiterOf t j .seq) 0 (c .1 (eqb-true _ 0 e))))
       (λ e. let h = c .0 (eqb-false _ 0 e) in rw (e, member-same (arbiterOf t j .holder) j, h .2, is-given (arbiterOf t j .seq) (h .0) (omega (arith, q, bound-fits)))))
 
-  held-shaped : (k j : ℕ) → heldShaped t k j ≡ true
-  unfolding heldShaped
+  place-shaped : (k : ℕ) → placeShaped (t .rig) k ≡ true
+  unfolding placeShaped
+  place-shaped k = rw (set-shaped k, site-shaped k, arbiter-shaped k)
+
+  rig-shaped : rigShaped (t .rig) ≡ true
+  unfolding rigShaped
+  rig-shaped =
+      let code : setupCode (sizeOf t) (setsOf t) ≡ 0 = rw (r .size, r .sets) (accepted-code n l a) in
+      rw (eq-eqb _ 0 code, le-leb (t .rig .accepted) eventLimit (r .bounded), all-of (placeShaped (t .rig)) siteLimit (λ k b c. place-shaped k))
+
+  held-shaped : (k j : ℕ) → ownShaped (setsOf t) k j (heldOf t k j) ≡ true
+  unfolding ownShaped
   held-shaped k j = entry-shaped _ _ (omega (arith, below .rows j .held k, bound-fits)) (λ h. member-same k j ∙ clauses j .T2 k h .1)
 
-  inquired-shaped : (k j : ℕ) → inquiredShaped t k j ≡ true
-  unfolding inquiredShaped
+  inquired-shaped : (k j : ℕ) → ownShaped (setsOf t) k j (inquiredOf t k j) ≡ true
+  unfolding ownShaped
   inquired-shaped k j = entry-shaped _ _ (omega (arith, below .rows j .inquired k, bound-fits)) (λ h. member-same k j ∙ clauses j .T8 k h .1)
 
-  queued-shaped : (j k : ℕ) → queuedShaped t j k ≡ true
+  queued-shaped : (j k : ℕ) → queuedShaped (setsOf t) j k (queuedOf t j k) ≡ true
   unfolding queuedShaped
   queued-shaped j k = entry-shaped _ _ (omega (arith, below .rows j .queued k, bound-fits)) (λ h. member-same k j ∙ clauses j .queuedMember k h)
 
-  heir-shaped : (k j : ℕ) → heirShaped t k j ≡ true
+  heir-shaped : (k j : ℕ) → heirShaped (setsOf t) k j (heirOf t k j) ≡ true
   unfolding heirShaped
   heir-shaped k j = by-bool (eqb (heirOf t k j) 0) (λ e. rw e)
       (λ e. let h = clauses j .T7 k (eqb-false _ 0 e) in rw (e, member-same k j, h .3, member-same (heirOf t k j) j, h .4))
 
   tables-shaped : tablesShaped t ≡ true
-  unfolding tablesShaped sitesShaped arbitersShaped
+  unfolding tablesShaped
   tables-shaped =
       rw (
-        sets-shaped,
-        accepted-shaped,
-        all-of (siteShaped t) siteLimit (λ k b c. site-shaped k),
-        all-of (arbiterShaped t) siteLimit (λ j b c. arbiter-shaped j),
-        everywhere-of (heldShaped t) (λ k j b c d e. held-shaped k j),
-        everywhere-of (heirShaped t) (λ k j b c d e. heir-shaped k j),
-        everywhere-of (inquiredShaped t) (λ k j b c d e. inquired-shaped k j),
-        everywhere-of (queuedShaped t) (λ j k b c d e. queued-shaped j k),
+        rig-shaped,
+        everywhere-of (ownShaped (setsOf t)) (t .held) held-shaped,
+        everywhere-of (heirShaped (setsOf t)) (t .heir) heir-shaped,
+        everywhere-of (ownShaped (setsOf t)) (t .inquired) inquired-shaped,
+        everywhere-of (queuedShaped (setsOf t)) (t .queued) queued-shaped,
       )
 
   -- Messages
@@ -213,22 +215,22 @@ module _ (n : ℕ) (l : List ℕ) (a : Accepted n l) (past : (k : ℕ) → n < k
   law = lawful n l a past
 
   -- the two ends of a tie are sites 1 to N
-  site-in : (k j : ℕ) → y.sets k j ≡ true → inRange t k ≡ true
-  site-in k j e = let w = law .siteInRange k j e in in-range t k (w .0) (rw (r .size) (w .1))
+  site-in : (k j : ℕ) → y.sets k j ≡ true → inRange (sizeOf t) k ≡ true
+  site-in k j e = let w = law .siteInRange k j e in in-range (sizeOf t) k (w .0) (rw (r .size) (w .1))
 
-  arbiter-in : (k j : ℕ) → y.sets k j ≡ true → inRange t j ≡ true
-  arbiter-in k j e = let w = law .memberInRange k j e in in-range t j (w .0) (rw (r .size) (w .1))
+  arbiter-in : (k j : ℕ) → y.sets k j ≡ true → inRange (sizeOf t) j ≡ true
+  arbiter-in k j e = let w = law .memberInRange k j e in in-range (sizeOf t) j (w .0) (rw (r .size) (w .1))
 
-  tie : (k j : ℕ) → y.sets k j ≡ true → hasMember t k j ≡ true
+  tie : (k j : ℕ) → y.sets k j ≡ true → hasMember (setsOf t) k j ≡ true
   tie k j e = member-same k j ∙ e
 
   given : (x : ℕ) → 1 ≤ x → x ≤ bound → isGiven x ≡ true
   given x b c = is-given x b (omega (arith, bound-fits))
 
-  wire-shaped : (j : ℕ) (m : M.Message) → FitsTables (settingOf y j) (viewOf state j) m → numberOf m ≤ bound → messageShaped t (wireOf j m) ≡ true
-  unfolding FitsTables messageShaped numberShaped aboutShaped
+  wire-shaped : (j : ℕ) (m : M.Message) → FitsTables (settingOf y j) (viewOf state j) m → numberOf m ≤ bound → messageShaped (sizeOf t) (setsOf t) (wireOf j m) ≡ true
+  unfolding FitsTables messageShaped numberShaped aboutShaped plainShaped releaseShaped
   wire-shaped j (M.request k x) f b = rw (site-in k j (f .3), arbiter-in k j (f .3), given x (f .2) b, tie k j (f .3))
-  wire-shaped j (M.reply u k x) f b = rw (in-range t u (f .4) (rw (r .size) (f .5)), site-in k j (f .3), given x (f .2) b, tie k j (f .3))
+  wire-shaped j (M.reply u k x) f b = rw (in-range (sizeOf t) u (f .4) (rw (r .size) (f .5)), site-in k j (f .3), given x (f .2) b, tie k j (f .3))
   wire-shaped j (M.release k x) f b = rw (site-in k j (f .2), arbiter-in k j (f .2), given x (f .1) b, tie k j (f .2))
   wire-shaped j (M.handOver k h x) f b =
       rw (site-in k j (f .2), arbiter-in k j (f .2), given x (f .4) b, tie k j (f .2), tie h j (f .3)) (or-second (eqb h 0) true refl)
@@ -240,7 +242,7 @@ module _ (n : ℕ) (l : List ℕ) (a : Accepted n l) (past : (k : ℕ) → n < k
   abbrev Fits : R.Sent → Type 0
   Fits x = FitsTables (settingOf y x.arbiter) (viewOf state x.arbiter) x.message
 
-  messages-shaped : (ms : List Message) → AllPlain ms → All Fits (map sentOf ms) → All (SentBelow bound) (map sentOf ms) → messagesShaped t ms ≡ true
+  messages-shaped : (ms : List Message) → AllPlain ms → All Fits (map sentOf ms) → All (SentBelow bound) (map sentOf ms) → messagesShaped (sizeOf t) (setsOf t) ms ≡ true
   unfolding All messagesShaped
   messages-shaped [] p f b = refl
   messages-shaped (m ∷ ms) p f b =
@@ -250,16 +252,12 @@ module _ (n : ℕ) (l : List ℕ) (a : Accepted n l) (past : (k : ℕ) → n < k
   every-fits : All Fits (map sentOf (underWay s))
   every-fits = all-fit y law state inv
 
-  pub well-shaped : wellShaped t (underWay s) ≡ true
+  pub well-shaped : wellShaped s ≡ true
   unfolding wellShaped
-  well-shaped = rw (
-    tables-shaped,
-    le-leb (length (underWay s)) messageLimit (rw (length-take (s .count) (s .list)) (omega (arith, r .few))),
-    messages-shaped (underWay s) (r .plain) every-fits (below .underWay),
-  )
+  well-shaped = rw (le-leb (s .count) messageLimit (r .few), tables-shaped, messages-shaped (underWay s) (r .plain) every-fits (below .underWay))
 
-  shaped-and-played : (wellShaped t (underWay s) ≡ true) × ((e : Event) → event s e .code ≢ 10)
-  shaped-and-played = (well-shaped, never-ten s (r .few) well-shaped)
+  shaped-and-played : (wellShaped s ≡ true) × ((e : Event) → event s e .code ≢ 10)
+  shaped-and-played = (well-shaped, never-ten s well-shaped)
 
   -- No reply, yield or plain release is stray
 
@@ -289,12 +287,12 @@ module _ (n : ℕ) (l : List ℕ) (a : Accepted n l) (past : (k : ℕ) → n < k
 
   -- 9 comes from the count of events alone
 
-  numbers-fit : (k : ℕ) (e : Effect) (rest : List Message) → Move s k e rest → t .rig .accepted < eventLimit → numbersFit e ≡ true
+  numbers-fit : (k : ℕ) (e : Effect) (rest : List Message) → Move s k e rest → t .rig .accepted < eventLimit → numbersFit (e .desk .site .clock) (e .desk .arbiter .grant) (e .sent) ≡ true
   unfolding numbersFit withDesk
   numbers-fit k e rest v c =
       let b = suc (suc bound) in
       let fits : b ≤ numberLimit = omega arith in
-      let next : RigBelow b (rigOf (withDesk t k (e .desk) 0) (rest ++ e .sent)) = rw (moved n l s k e rest r v 0) (step-bounded y bound state (v .step) below) in
+      let next : RigBelow b (rigOf (withDesk t k (e .desk)) (rest ++ e .sent)) = rw (moved n l s k e rest r v) (step-bounded y bound state (v .step) below) in
       let clock : e .desk .site .clock ≤ b = rw (at-put-same restingSite (t .rig .sites) k (e .desk .site) (v .low) (rw (r .sized .sites) (v .high))) at (next .clock k) in
       let grant : e .desk .arbiter .grant ≤ b = rw (at-put-same freeArbiter (t .rig .arbiters) k (e .desk .arbiter) (v .low) (rw (r .sized .arbiters) (v .high))) at (next .rows k .grant) in
       rw (
@@ -303,7 +301,7 @@ module _ (n : ℕ) (l : List ℕ) (a : Accepted n l) (past : (k : ℕ) → n < k
         last-numbers b rest (e .sent) fits (numbers-of b (rest ++ e .sent) (both rest (e .sent) (v .rests) (v .sends)) (next .underWay)),
       )
 
-  limit-nine : (k : ℕ) (e : Effect) (rest : List Message) → Move s k e rest → limitCode t e rest ≡ 9 → t .rig .accepted ≡ eventLimit
+  limit-nine : (k : ℕ) (e : Effect) (rest : List Message) → Move s k e rest → effectCode (t .rig .accepted) e rest ≡ 9 → t .rig .accepted ≡ eventLimit
   unfolding limitCode
   limit-nine k e rest v h = by-bool (leb eventLimit (t .rig .accepted))
       (λ c. omega (arith, leb-true eventLimit (t .rig .accepted) c, r .bounded))
@@ -312,20 +310,21 @@ module _ (n : ℕ) (l : List ℕ) (a : Accepted n l) (past : (k : ℕ) → n < k
       (λ d. let x : _≡_ {A = ℕ} 8 9 = rw (c, f, d) at h in absurd (omega arith))
       (λ d. let x : _≡_ {A = ℕ} 0 9 = rw (c, f, d) at h in absurd (omega arith)))
 
-  judged-nine : (k : ℕ) (q : Attempt) → Moves s k q → judged s k q .code ≡ 9 → t .rig .accepted ≡ eventLimit
-  unfolding judged settled
-  judged-nine k (refused c) v h = absurd (v h)
-  judged-nine k (possible e rest) v h = limit-nine k e rest v h
+  judged-nine : (k : ℕ) (d : Desk) (ms : List Message) (q : Attempt) → Moves s k q → judged (t .rig .accepted) d ms q .code ≡ 9 → t .rig .accepted ≡ eventLimit
+  unfolding judged
+  judged-nine k d ms (refused c) v h = absurd (v .1 h)
+  judged-nine k d ms (possible e rest) v h =
+      by-bool (eqb (effectCode (t .rig .accepted) e rest) 0)
+      (λ z. let x : _≡_ {A = ℕ} 0 9 = rw z at h in absurd (omega arith))
+      (λ z. limit-nine k e rest v (rw z at h))
 
   pub nine-by-count : (e : Event) → event s e .code ≡ 9 → t .rig .accepted ≡ eventLimit
-  unfolding event
+  unfolding event eventAt settled deskOf
   nine-by-count e h =
       by-bool (eqb (length (s .list)) messageLimit)
-      (λ b. by-bool (leb (s .count) messageLimit && wellShaped t (underWay s))
-      (λ c. by-bool (sitesNamed t e)
-      (λ d. judged-nine (actor e) _ (attempt-moves n l s r well-shaped e d) (rw (b, c, d) at h))
-      (λ d. let x : _≡_ {A = ℕ} 4 9 = rw (b, c, d) at h in absurd (omega arith)))
-      (λ c. let x : _≡_ {A = ℕ} 10 9 = rw (b, c) at h in absurd (omega arith)))
+      (λ b. by-bool (sitesNamed (sizeOf t) e)
+      (λ d. judged-nine (actor e) _ _ _ (attempt-moves n l s r well-shaped e d) (rw (b, well-shaped, d) at h))
+      (λ d. let x : _≡_ {A = ℕ} 4 9 = rw (b, well-shaped, d) at h in absurd (omega arith)))
       (λ b. let x : _≡_ {A = ℕ} 13 9 = rw b at h in absurd (omega arith))
 
 -- Said of every run

@@ -2,35 +2,35 @@
 use Prim.Native.Nat.{ℕ, _+_, _≤_}
 use mathlib.Core.Path.{_≡_}
 use mathlib.Core.Logic.{_≢_}
-use mathlib.Core.Bool.{true, not, _&&_, _||_}
-use mathlib.Core.List.{List, [], _∷_, _++_}
+use mathlib.Core.Bool.{true, not, _||_}
+use mathlib.Core.List.{List, [], _∷_}
 use mathlib.Core.Option.{Option, none, some}
 use native.Mathlib.Omega.{arith}
 use lib.Dec.{eqb, leb, ltb}
-use lib.ListN.{length, length-append, length-replicate}
-use borrow.Author.Tests.{eqb-true, eq-eqb, le-leb}
+use lib.ListN.{length, length-append, length-replicate, length-take}
+use borrow.Author.Tests.{eqb-true, eq-eqb}
 use Rattle.basics.specs.Helpers.{first, withoutFirst}
 use Rattle.basics.proofs.Basics.{by-bool}
+use Rattle.rig.specs.declared.Desk.{Desk}
 use Rattle.rig.specs.declared.Message.{Message}
 use Rattle.rig.specs.declared.Event.{Event}
 use Rattle.rig.specs.declared.Event.the-variants.{Ask, Leave, Deliver}
 use Rattle.rig.specs.Limits.{messageLimit, eventLimit}
-use Rattle.model.specs.State.{Tables, modeOf, isResting, isInside}
-use Rattle.model.specs.Desk.{Effect}
+use Rattle.model.specs.State.{Stored, underWay, isResting, isInside, deskOf}
 use Rattle.model.specs.Deliver.{between}
 use Rattle.model.specs.Shape.{wellShaped}
-use Rattle.model.specs.Event.{actor, sitesNamed, Attempt, refused, possible, takenOff, attempt, numbersFit, limitCode, Stored, underWay, padded, accepted, settled, judged, event}
+use Rattle.model.specs.Event.{actor, sitesNamed, Attempt, refused, possible, takenOff, attempt, numbersFit, limitCode, effectCode, Outcome, padded, accepted, judged, eventAt, settled, event}
 use Rattle.model.specs.Run.{run}
 use Rattle.model.proofs.Reached.{room}
 
 -- What comes after the test of the shape answers at most 9.
 
-limit-low : (t : Tables) (e : Effect) (rest : List Message) → limitCode t e rest ≤ 9
+limit-low : (n clock grant : ℕ) (sent : List Message) (rest : ℕ) → limitCode n clock grant sent rest ≤ 9
 unfolding limitCode
-limit-low t e rest =
-    by-bool (leb eventLimit (t .rig .accepted) || not (numbersFit e))
+limit-low n clock grant sent rest =
+    by-bool (leb eventLimit n || not (numbersFit clock grant sent))
     (λ a. rw a (omega arith))
-    (λ a. by-bool (ltb messageLimit (length rest + length (e .sent)))
+    (λ a. by-bool (ltb messageLimit (rest + length sent))
     (λ b. rw (a, b) (omega arith))
     (λ b. rw (a, b) (omega arith)))
 
@@ -38,62 +38,90 @@ padded-long : (ms : List Message) → length ms ≤ messageLimit → length (pad
 unfolding padded
 padded-long ms few = rw (length-append, length-replicate) (omega arith)
 
+module _ (n : ℕ) (d : Desk) (ms : List Message) where
+  -- a refusal of the rules is none of the limits
+  abbrev Low : Attempt → Type 0
+  Low (refused c) = c ≤ 9
+  Low (possible e rest) = Unit {0}
+
+  judged-low : (a : Attempt) → Low a → judged n d ms a .code ≤ 9
+  unfolding judged
+  judged-low (refused c) h = h
+  judged-low (possible e rest) h =
+      by-bool (eqb (effectCode n e rest) 0)
+      (λ b. rw b (omega arith))
+      (λ b. rw b (limit-low n _ _ (e .sent) (length rest)))
+
+  taken-low : (m : Option Message) (rest : List Message) → Low (takenOff d m rest)
+  unfolding takenOff
+  taken-low none rest = omega arith
+  taken-low (some m) rest = tt
+
+  attempt-low : (e : Event) → Low (attempt d ms e)
+  unfolding attempt
+  attempt-low (Ask k) = by-bool (isResting (d .site .mode)) (λ b. rw b tt) (λ b. rw b (omega arith))
+  attempt-low (Leave k) = by-bool (isInside (d .site .mode)) (λ b. rw b tt) (λ b. rw b (omega arith))
+  attempt-low (Deliver a b) = taken-low (first (between a b) ms) (withoutFirst (between a b) ms)
+
+  at-low : (e : Event) → eventAt n d ms e .code ≤ 9
+  unfolding eventAt
+  at-low e =
+      by-bool (sitesNamed (d .size) e)
+      (λ c. rw c (judged-low (attempt d ms e) (attempt-low e)))
+      (λ c. rw c (omega arith))
+
+  -- An outcome of code 0 leaves at most 1,024 messages.
+  abbrev Few : Outcome → Type 0
+  Few o = eqb (o .code) 0 ≡ true → length (o .messages) ≤ messageLimit
+
+  judged-few : length ms ≤ messageLimit → (a : Attempt) → Few (judged n d ms a)
+  unfolding judged
+  judged-few few (refused c) h = few
+  judged-few few (possible e rest) h =
+      by-bool (eqb (effectCode n e rest) 0)
+      (λ b. rw b (rw length-append (room n _ _ (e .sent) (length rest) (eqb-true _ 0 b) .0)))
+      (λ b. rw b few)
+
+  at-few : length ms ≤ messageLimit → (e : Event) → Few (eventAt n d ms e)
+  unfolding eventAt
+  at-few few e =
+      by-bool (sitesNamed (d .size) e)
+      (λ c. rw c (judged-few few (attempt d ms e)))
+      (λ c. rw c (λ h. few))
+
 module _ (s : Stored) where
-  abbrev t : Tables
-  t = s .tables
+  abbrev result : Event → Outcome
+  result e = eventAt (s .tables .rig .accepted) (deskOf (s .tables) (actor e)) (underWay s) e
 
-  abbrev ms : List Message
-  ms = underWay s
+  result-low : (e : Event) → result e .code ≤ 9
+  result-low e = at-low _ (deskOf (s .tables) (actor e)) (underWay s) e
 
-  taken-low : (k : ℕ) (m : Option Message) (rest : List Message) → judged s k (takenOff t k m rest) .code ≤ 9
-  unfolding takenOff judged settled
-  taken-low k none rest = omega arith
-  taken-low k (some m) rest = limit-low t _ rest
-
-  judged-low : (e : Event) → judged s (actor e) (attempt t ms e) .code ≤ 9
-  unfolding actor attempt judged settled
-  judged-low (Ask k) = by-bool (isResting (modeOf t k)) (λ b. rw b (limit-low t _ ms)) (λ b. rw b (omega arith))
-  judged-low (Leave k) = by-bool (isInside (modeOf t k)) (λ b. rw b (limit-low t _ ms)) (λ b. rw b (omega arith))
-  judged-low (Deliver a b) = taken-low b (first (between a b) ms) (withoutFirst (between a b) ms)
-
-  pub never-ten : s .count ≤ messageLimit → wellShaped t ms ≡ true → (e : Event) → event s e .code ≢ 10
-  unfolding event
-  never-ten few shaped e h =
-      let l = judged-low e in
+  pub never-ten : wellShaped s ≡ true → (e : Event) → event s e .code ≢ 10
+  unfolding event settled
+  never-ten shaped e h =
+      let l = result-low e in
       by-bool (eqb (length (s .list)) messageLimit)
-      (λ b. by-bool (sitesNamed t e)
-      (λ c. let x : judged s (actor e) (attempt t ms e) .code ≡ 10 = rw (b, le-leb (s .count) messageLimit few, shaped, c) at h in absurd (omega arith))
-      (λ c. let x : _≡_ {A = ℕ} 4 10 = rw (b, le-leb (s .count) messageLimit few, shaped, c) at h in absurd (omega arith)))
+      (λ b. let x : result e .code ≡ 10 = rw (b, shaped) at h in absurd (omega arith))
       (λ b. let x : _≡_ {A = ℕ} 13 10 = rw b at h in absurd (omega arith))
 
   pub never-thirteen : length (s .list) ≡ messageLimit → (e : Event) → event s e .code ≢ 13
-  unfolding event
+  unfolding event settled
   never-thirteen long e h =
-      let l = judged-low e in
-      by-bool (leb (s .count) messageLimit && wellShaped t ms)
-      (λ b. by-bool (sitesNamed t e)
-      (λ c. let x : judged s (actor e) (attempt t ms e) .code ≡ 13 = rw (eq-eqb _ messageLimit long, b, c) at h in absurd (omega arith))
-      (λ c. let x : _≡_ {A = ℕ} 4 13 = rw (eq-eqb _ messageLimit long, b, c) at h in absurd (omega arith)))
+      let l = result-low e in
+      by-bool (wellShaped s)
+      (λ b. let x : result e .code ≡ 13 = rw (eq-eqb _ messageLimit long, b) at h in absurd (omega arith))
       (λ b. let x : _≡_ {A = ℕ} 10 13 = rw (eq-eqb _ messageLimit long, b) at h in absurd (omega arith))
 
   -- The list keeps its length.
 
-  judged-long : (k : ℕ) (a : Attempt) → length (s .list) ≡ messageLimit → length (judged s k a .next .list) ≡ messageLimit
-  unfolding judged settled accepted
-  judged-long k (refused c) long = long
-  judged-long k (possible e rest) long =
-      by-bool (eqb (limitCode t e rest) 0)
-      (λ h. let few = room t e rest (eqb-true _ 0 h) .0 in
-      rw h (padded-long (rest ++ e .sent) (rw length-append few)))
-      (λ h. rw h long)
-
   event-long : (e : Event) → length (s .list) ≡ messageLimit → length (event s e .next .list) ≡ messageLimit
-  unfolding event
+  unfolding event settled accepted
   event-long e long =
+      let few : length (underWay s) ≤ messageLimit = rw (length-take (s .count) (s .list)) (omega arith) in
       by-bool (eqb (length (s .list)) messageLimit)
-      (λ a. by-bool (leb (s .count) messageLimit && wellShaped t ms)
-      (λ b. by-bool (sitesNamed t e)
-      (λ c. rw (a, b, c) (judged-long (actor e) (attempt t ms e) long))
+      (λ a. by-bool (wellShaped s)
+      (λ b. by-bool (eqb (result e .code) 0)
+      (λ c. rw (a, b, c) (padded-long (result e .messages) (at-few _ (deskOf (s .tables) (actor e)) (underWay s) few e c)))
       (λ c. rw (a, b, c) long))
       (λ b. rw (a, b) long))
       (λ a. rw a long)

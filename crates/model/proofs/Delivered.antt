@@ -7,19 +7,19 @@ use mathlib.Core.Bool.{true, _||_}
 use mathlib.Core.List.{List, [], _∷_, _++_, map}
 use mathlib.Core.Option.{some}
 use native.Mathlib.Omega.{arith}
-use lib.Dec.{eqb, leb}
-use borrow.Author.Tests.{eqb-true, eqb-false, ne-eqb, leb-true}
+use lib.Dec.{eqb}
+use borrow.Author.Tests.{eqb-true, eqb-false, ne-eqb}
 use Rattle.basics.specs.Helpers.{first, withoutFirst}
 use Rattle.basics.proofs.Basics.{by-bool, clash, and-split}
 use Rattle.rig.specs.declared.Message.{Message}
-use Rattle.rig.specs.Limits.{siteLimit}
+use Rattle.rig.specs.Limits.{siteLimit, SiteNumber}
 use Rattle.rig.specs.Messages.{REQUEST, REPLY, RELEASE, INQUIRE, FAIL, YIELD, TRANSFER}
 use Rattle.protocol.specs.Rig as R
-use Rattle.model.specs.State.{Tables, sizeOf, inRange, hasMember, deskOf, withDesk}
+use Rattle.model.specs.State.{Tables, Stored, sizeOf, setsOf, inRange, hasMember, deskOf, withDesk}
 use Rattle.model.specs.Deliver.{between, delivered}
-use Rattle.model.specs.Shape.{numberShaped, aboutShaped, messageShaped, messagesShaped}
+use Rattle.model.specs.Shape.{numberShaped, releaseShaped, aboutShaped, messageShaped, messagesShaped}
 use Rattle.model.proofs.Machine.{systemOf, sentOf, rigOf, Sized}
-use Rattle.model.proofs.Shaped.{Shaped, ties}
+use Rattle.model.proofs.Shaped.{Shaped, ties, listed, tied-listed}
 use Rattle.model.proofs.ArbiterDelivered.{request-delivered, release-delivered, handOver-delivered, yield-delivered}
 use Rattle.model.proofs.SiteDelivered.{transfer-delivered, inquire-delivered}
 use Rattle.model.proofs.ReplyDelivered.{reply-delivered}
@@ -73,56 +73,45 @@ unfolding R.step R.takenOff
 step-delivers t ms a b m e = rw (first-same a b ms m e, rest-same a b ms)
 
 -- the message that is taken off is well shaped, and goes to b
-pub first-shaped : (t : Tables) (a b : ℕ) (ms : List Message) (m : Message) → messagesShaped t ms ≡ true → first (between a b) ms ≡ some m → (messageShaped t m ≡ true) × (b ≡ m .to)
+pub first-shaped : (n : ℕ) (sets : List ℕ) (a b : ℕ) (ms : List Message) (m : Message) → messagesShaped n sets ms ≡ true → first (between a b) ms ≡ some m → (messageShaped n sets m ≡ true) × (b ≡ m .to)
 unfolding messagesShaped first between
-first-shaped t a b [] m s e = let z : _≡_ {A = ℕ} 0 1 = cc in absurd (omega arith)
-first-shaped t a b (x ∷ ms) m s e =
-    let w = and-split (messageShaped t x) (messagesShaped t ms) s in
+first-shaped n sets a b [] m s e = let z : _≡_ {A = ℕ} 0 1 = cc in absurd (omega arith)
+first-shaped n sets a b (x ∷ ms) m s e =
+    let w = and-split (messageShaped n sets x) (messagesShaped n sets ms) s in
     by-bool (between a b x)
     (λ h. let q : x ≡ m = cc in (rw q at (w .0), eqb-true b (x .to) (and-split (eqb a (x .from)) (eqb b (x .to)) h .1) ∙ ap (λ (y : Message). y .to) q))
-    (λ h. first-shaped t a b ms m (w .1) (rw h at e))
+    (λ h. first-shaped n sets a b ms m (w .1) (rw h at e))
 
-pub within : (t : Tables) (k : ℕ) → inRange t k ≡ true → (1 ≤ k) × (k ≤ sizeOf t)
-within t k e = let w = and-split (leb 1 k) (leb k (sizeOf t)) e in (leb-true 1 k (w .0), leb-true k (sizeOf t) (w .1))
+module _ (s : Stored) (z : Sized (s .tables)) (sh : Shaped s) (m : Message) (e : messageShaped (sizeOf (s .tables)) (setsOf (s .tables)) m ≡ true) where
+  abbrev t : Tables
+  t = s .tables
 
-module _ (t : Tables) (z : Sized t) (under : List Message) (s : Shaped t under) (m : Message) (e : messageShaped t m ≡ true) where
-  pub ends : ((1 ≤ m .from) × (m .from ≤ siteLimit)) × ((1 ≤ m .to) × (m .to ≤ siteLimit)) × (aboutShaped t m ≡ true)
+  pub ends : SiteNumber (m .from) × SiteNumber (m .to) × (aboutShaped (setsOf t) m ≡ true)
   unfolding messageShaped
   ends =
-      let n = z .size in
-      let a = and-split (inRange t (m .from)) _ e in
-      let b = and-split (inRange t (m .to)) _ (a .1) in
-      let c = and-split (numberShaped m) (aboutShaped t m) (b .1) in
-      let f = within t (m .from) (a .0) in
-      let g = within t (m .to) (b .0) in
-      let f1 = f .1 in let g1 = g .1 in
-      ((f .0, omega arith), (g .0, omega arith), c .1)
+      let a = and-split (inRange (sizeOf t) (m .from)) _ e in
+      let b = and-split (inRange (sizeOf t) (m .to)) _ (a .1) in
+      let c = and-split (numberShaped m) (aboutShaped (setsOf t) m) (b .1) in
+      (listed s sh (m .from) (a .0), listed s sh (m .to) (b .0), c .1)
 
-  -- a member of a site's set is a site
-  member-in : (k j : ℕ) → hasMember t k j ≡ true → ((1 ≤ k) × (k ≤ siteLimit)) × ((1 ≤ j) × (j ≤ siteLimit))
-  member-in k j h =
-      let w = ties t under s k j h in
-      let n = z .size in let w1 = w .1 in let w3 = w .3 in
-      ((w .0, omega arith), (w .2, omega arith))
-
-  pub delivered-same : (n : ℕ) (rest ms : List Message)
-      → rigOf (withDesk t (m .to) (delivered (deskOf t (m .to)) m .desk) n) (rest ++ delivered (deskOf t (m .to)) m .sent) ≡ R.delivered (systemOf t) (rigOf t ms) (map sentOf rest) ((sentOf m) .arbiter) ((sentOf m) .message)
-  unfolding delivered aboutShaped
-  delivered-same n rest ms =
+  pub delivered-same : (rest ms : List Message)
+      → rigOf (withDesk t (m .to) (delivered (deskOf t (m .to)) m .desk)) (rest ++ delivered (deskOf t (m .to)) m .sent) ≡ R.delivered (systemOf t) (rigOf t ms) (map sentOf rest) ((sentOf m) .arbiter) ((sentOf m) .message)
+  unfolding delivered aboutShaped releaseShaped
+  delivered-same rest ms =
       let fr = ends .0 in
       let to = ends .1 in
       let ab = ends .2 in
       by-kind (m .kind)
-      (λ k. rw k (request-delivered t z (m .to) (to .0) (to .1) n rest ms (m .from) (m .number) (fr .0) (fr .1)))
-      (λ k. let a = member-in (m .to) (m .about) (rw k at ab) .1 in
-      rw k (reply-delivered t z (m .to) (to .0) (to .1) n rest (m .about) (a .0) (a .1) (m .number) ms (m .from)))
-      (λ k. let a = and-split (hasMember t (m .from) (m .to)) (eqb (m .about) 0 || hasMember t (m .about) (m .to)) (rw k at ab) .1 in
+      (λ k. rw k (request-delivered t z (m .to) (to .low) (to .high) rest ms (m .from) (m .number) (fr .low) (fr .high)))
+      (λ k. let a = tied-listed s sh (m .to) (m .about) (rw k at ab) .1 in
+      rw k (reply-delivered t z (m .to) (to .low) (to .high) rest (m .about) (a .low) (a .high) (m .number) ms (m .from)))
+      (λ k. let a = and-split (hasMember (setsOf t) (m .from) (m .to)) (eqb (m .about) 0 || hasMember (setsOf t) (m .about) (m .to)) (rw k at ab) .1 in
       rw k (by-bool (eqb (m .about) 0)
-      (λ h. rw (h, eqb-true (m .about) 0 h) (release-delivered t z (m .to) (to .0) (to .1) n rest ms (m .from) (m .number) (fr .0) (fr .1)))
-      (λ h. let b = member-in (m .about) (m .to) (rw h at a) .0 in
-      rw h (handOver-delivered t z (m .to) (to .0) (to .1) n rest ms (m .from) (m .about) (m .number) (b .0) (b .1)))))
-      (λ k. rw k (inquire-delivered t z (m .to) (to .0) (to .1) n rest (m .from) (fr .0) (fr .1) ms (m .number)))
-      (λ k. rw k (fail-delivered t z (m .to) (to .0) (to .1) n rest ms (λ j h. let w = ties t under s (m .to) j h in (w .2, w .3)) (m .from)))
-      (λ k. rw k (yield-delivered t z (m .to) (to .0) (to .1) n rest ms (m .from) (m .number) (fr .0) (fr .1)))
-      (λ k. rw k (transfer-delivered t z (m .to) (to .0) (to .1) n rest (m .from) (fr .0) (fr .1) ms (m .about) (m .number)))
-      (λ n1 n2 n3 n4 n5 n6 n7. clash (aboutShaped t m) ab (rw (ne-eqb _ _ n1, ne-eqb _ _ n2, ne-eqb _ _ n3, ne-eqb _ _ n4, ne-eqb _ _ n5, ne-eqb _ _ n6, ne-eqb _ _ n7)))
+      (λ h. rw (h, eqb-true (m .about) 0 h) (release-delivered t z (m .to) (to .low) (to .high) rest ms (m .from) (m .number) (fr .low) (fr .high)))
+      (λ h. let b = tied-listed s sh (m .about) (m .to) (rw h at a) .0 in
+      rw h (handOver-delivered t z (m .to) (to .low) (to .high) rest ms (m .from) (m .about) (m .number) (b .low) (b .high)))))
+      (λ k. rw k (inquire-delivered t z (m .to) (to .low) (to .high) rest (m .from) (fr .low) (fr .high) ms (m .number)))
+      (λ k. rw k (fail-delivered t z (m .to) (to .low) (to .high) rest ms (λ j h. let w = ties s sh (m .to) j h in (w .2, w .3)) (m .from)))
+      (λ k. rw k (yield-delivered t z (m .to) (to .low) (to .high) rest ms (m .from) (m .number) (fr .low) (fr .high)))
+      (λ k. rw k (transfer-delivered t z (m .to) (to .low) (to .high) rest (m .from) (fr .low) (fr .high) ms (m .about) (m .number)))
+      (λ n1 n2 n3 n4 n5 n6 n7. clash (aboutShaped (setsOf t) m) ab (rw (ne-eqb _ _ n1, ne-eqb _ _ n2, ne-eqb _ _ n3, ne-eqb _ _ n4, ne-eqb _ _ n5, ne-eqb _ _ n6, ne-eqb _ _ n7)))

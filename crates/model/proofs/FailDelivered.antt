@@ -22,7 +22,7 @@ use Rattle.protocol.specs.Site as S
 use Rattle.protocol.specs.System.{settingOf}
 use Rattle.protocol.specs.Rig as R
 use Rattle.model.specs.Tables.{at, put, cell}
-use Rattle.model.specs.State.{Tables, isWaiting, seqIn, sizeOf, hasMember, modeOf, deskOf, withDesk}
+use Rattle.model.specs.State.{Tables, isWaiting, seqIn, sizeOf, setsOf, hasMember, modeOf, deskOf, withDesk}
 use Rattle.model.specs.Desk.{Effect, heldFor}
 use Rattle.model.specs.Site.{failedSet, yielded, mustYield, yieldedIf, andThen, yieldedUpTo, onFail}
 use Rattle.model.proofs.Tables.{at-put-same, at-put-other, length-put}
@@ -147,7 +147,7 @@ in-order-same f g (suc n) h = rw (in-order-same f g n (λ j a b. h j a (omega ar
 waiting-number : (m : Mode) → isWaiting m ≡ true → modeNumber m ≡ 1
 waiting-number m e = eqb-true (modeNumber m) 1 (waits-same m ∙ e)
 
-module _ (t : Tables) (z : Sized t) (b : ℕ) (lo : 1 ≤ b) (hi : b ≤ siteLimit) (n : ℕ) (rest ms : List Message) (inside : (j : ℕ) → hasMember t b j ≡ true → (1 ≤ j) × (j ≤ sizeOf t)) where
+module _ (t : Tables) (z : Sized t) (b : ℕ) (lo : 1 ≤ b) (hi : b ≤ siteLimit) (rest ms : List Message) (inside : (j : ℕ) → hasMember (setsOf t) b j ≡ true → (1 ≤ j) × (j ≤ sizeOf t)) where
   -- what arbiter j sees of the fail
   abbrev sees : ℕ → P.View
   sees j = S.onFail (settingOf (systemOf t) j) (P.view (localAt t j) []) b
@@ -180,11 +180,11 @@ module _ (t : Tables) (z : Sized t) (b : ℕ) (lo : 1 ≤ b) (hi : b ≤ siteLim
     row-seen i =
         let y = all-yielded in
         by-bool (mustYield (deskOf t b) i)
-        (λ m. rw (waits, m) (columns t z b lo hi n i
+        (λ m. rw (waits, m) (columns t z b lo hi i
         (rw (entry-goes (after .desk .held) (deskOf t b .held) i m (y .held)))
         (rw (entry-goes (after .desk .heir) (deskOf t b .heir) i m (y .heir)))
         (rw (entry-goes (after .desk .inquired) (deskOf t b .inquired) i m (y .inquired)))))
-        (λ m. rw (waits, m) (columns t z b lo hi n i
+        (λ m. rw (waits, m) (columns t z b lo hi i
         (update-self _ b _ (sym (entry-stays (after .desk .held) (deskOf t b .held) i m (y .held))))
         (update-self _ b _ (sym (entry-stays (after .desk .heir) (deskOf t b .heir) i m (y .heir))))
         (update-self _ b _ (sym (entry-stays (after .desk .inquired) (deskOf t b .inquired) i m (y .inquired))))))
@@ -194,12 +194,12 @@ module _ (t : Tables) (z : Sized t) (b : ℕ) (lo : 1 ≤ b) (hi : b ≤ siteLim
     sent-seen i = by-bool (mustYield (deskOf t b) i) (λ m. rw (waits, m)) (λ m. rw (waits, m))
 
     waiting-fails : (j : ℕ)
-        → rigOf (withDesk t b (onFail (deskOf t b) .desk) n) (rest ++ onFail (deskOf t b) .sent) ≡ R.delivered (systemOf t) (rigOf t ms) (map sentOf rest) j (M.fail b)
+        → rigOf (withDesk t b (onFail (deskOf t b) .desk)) (rest ++ onFail (deskOf t b) .sent) ≡ R.delivered (systemOf t) (rigOf t ms) (map sentOf rest) j (M.fail b)
     unfolding onFail R.delivered deskOf failedSet
     waiting-fails j =
         let y = all-yielded in
         rw (w, waits)
-        (of-site t z b lo hi n (after .desk) (rest ++ after .sent) (record { arbiter = y .arbiter; queued = y .queued })
+        (of-site t z b lo hi (after .desk) (rest ++ after .sent) (record { arbiter = y .arbiter; queued = y .queued })
         ∙ rig-path
         (ap (λ (x : Site). sitesWith t b (x .mode)) (y .site) ∙ sites-path (update-self _ b _ (waiting-number (modeOf t b) w)) (update-self _ b _ refl) refl)
         (ap (λ (x : Site). clockWith t b (x .clock)) (y .site) ∙ update-self _ b _ refl)
@@ -207,9 +207,9 @@ module _ (t : Tables) (z : Sized t) (b : ℕ) (lo : 1 ≤ b) (hi : b ≤ siteLim
         (map-append sentOf rest (after .sent) ∙ rw (y .sent) (ap (λ (x : List R.Sent). map sentOf rest ++ x) (in-order-same _ _ (sizeOf t) (λ i l h. sent-seen i)))))
 
   pub fail-delivered : (j : ℕ)
-      → rigOf (withDesk t b (onFail (deskOf t b) .desk) n) (rest ++ onFail (deskOf t b) .sent) ≡ R.delivered (systemOf t) (rigOf t ms) (map sentOf rest) j (M.fail b)
+      → rigOf (withDesk t b (onFail (deskOf t b) .desk)) (rest ++ onFail (deskOf t b) .sent) ≡ R.delivered (systemOf t) (rigOf t ms) (map sentOf rest) j (M.fail b)
   unfolding onFail R.delivered S.onFail deskOf R.sentBy
   fail-delivered j =
       by-bool (isWaiting (modeOf t b))
       (λ w. waiting-fails w j)
-      (λ w. rw (w, waits-same (modeOf t b), w) (nothing t z b lo hi n rest j ∙ rig-path refl refl (update-self _ j _ refl) (rw (each-none (sizeOf t)))))
+      (λ w. rw (w, waits-same (modeOf t b), w) (nothing t z b lo hi rest j ∙ rig-path refl refl (update-self _ j _ refl) (rw (each-none (sizeOf t)))))

@@ -23,7 +23,7 @@ use Rattle.protocol.specs.Local.{Local}
 use Rattle.protocol.specs.System.{System}
 use Rattle.protocol.specs.Rig as R
 use Rattle.model.specs.Tables.{at, cell}
-use Rattle.model.specs.State.{Tables, isResting, isWaiting, isInside, seqIn, failedIn, sizeOf, hasMember, siteOf, modeOf, arbiterOf, heldOf, heirOf, inquiredOf, queuedOf, deskOf, withDesk}
+use Rattle.model.specs.State.{Tables, isResting, isWaiting, isInside, seqIn, failedIn, sizeOf, setsOf, hasMember, siteOf, modeOf, arbiterOf, heldOf, heirOf, inquiredOf, queuedOf, deskOf, withDesk}
 use Rattle.basics.proofs.Basics.{by-bool}
 use Rattle.model.proofs.Tables.{at-put, at-put-same, at-put-other, cell-put, length-put, Square, square-put}
 use Rattle.model.proofs.Lawful.{before}
@@ -34,7 +34,7 @@ modeNumber (Waiting s f) = 1
 modeNumber Inside = 2
 
 abbrev pub systemOf : Tables → System
-systemOf t = record { size = sizeOf t; sets = λ k j. hasMember t k j; comesBefore = before }
+systemOf t = record { size = sizeOf t; sets = λ k j. hasMember (setsOf t) k j; comesBefore = before }
 
 abbrev pub sitesOf : Tables → R.Sites
 sitesOf t = record { mode = λ k. modeNumber (modeOf t k); seq = λ k. seqIn (modeOf t k); failed = λ k. failedIn (modeOf t k) }
@@ -90,9 +90,9 @@ pub desk-sized : (t : Tables) (s : ℕ) → Sized t → 1 ≤ s → s ≤ siteLi
 unfolding deskOf
 desk-sized t s z lo hi = record { held = z .held .columns s lo hi; heir = z .heir .columns s lo hi; inquired = z .inquired .columns s lo hi; queued = z .queued .columns s lo hi }
 
-pub sized-desk : (t : Tables) (s : ℕ) (d : Desk) (n : ℕ) → Sized t → DeskSized d → 1 ≤ s → s ≤ siteLimit → Sized (withDesk t s d n)
+pub sized-desk : (t : Tables) (s : ℕ) (d : Desk) → Sized t → DeskSized d → 1 ≤ s → s ≤ siteLimit → Sized (withDesk t s d)
 unfolding withDesk
-sized-desk t s d n z y lo hi = record {
+sized-desk t s d z y lo hi = record {
   size = z .size;
   sets = z .sets;
   sites = length-put (t .rig .sites) s (d .site) ∙ z .sites;
@@ -175,26 +175,26 @@ ownRow t b d = record {
   inquired = update (λ k. inquiredOf t k b) b (at 0 (d .inquired) b);
 }
 
-module _ (t : Tables) (z : Sized t) (b : ℕ) (lo : 1 ≤ b) (hi : b ≤ siteLimit) (d : Desk) (n : ℕ) where
+module _ (t : Tables) (z : Sized t) (b : ℕ) (lo : 1 ≤ b) (hi : b ≤ siteLimit) (d : Desk) where
   -- anything read of a site
-  site-with : {A : Type 0} (f : Site → A) → _≡_ {A = ℕ → A} (λ k. f (siteOf (withDesk t b d n) k)) (update (λ k. f (siteOf t k)) b (f (d .site)))
+  site-with : {A : Type 0} (f : Site → A) → _≡_ {A = ℕ → A} (λ k. f (siteOf (withDesk t b d) k)) (update (λ k. f (siteOf t k)) b (f (d .site)))
   unfolding withDesk update
   site-with f = fun-ext (λ k. ap f (at-put _ (t .rig .sites) b (d .site) lo (omega (arith, z .sites)) k) ∙ by-bool (eqb k b) (λ e. rw e) (λ e. rw e))
 
-  row-other : (j : ℕ) → j ≢ b → rowOf (withDesk t b d n) j ≡ otherRow t b d j
+  row-other : (j : ℕ) → j ≢ b → rowOf (withDesk t b d) j ≡ otherRow t b d j
   unfolding withDesk cell
   row-other j ne =
-      row-path (withDesk t b d n) j (arbiterOf t j) (λ k. queuedOf t j k) _ _ _
+      row-path (withDesk t b d) j (arbiterOf t j) (λ k. queuedOf t j k) _ _ _
       (at-put-other _ (t .rig .arbiters) b (d .arbiter) j ne)
       (λ k. rw (at-put-other [] (t .queued) b (d .queued) j ne))
       (cell-put (t .held) b (d .held) lo (omega (arith, z .held .rows)) j)
       (cell-put (t .heir) b (d .heir) lo (omega (arith, z .heir .rows)) j)
       (cell-put (t .inquired) b (d .inquired) lo (omega (arith, z .inquired .rows)) j)
 
-  row-own : rowOf (withDesk t b d n) b ≡ ownRow t b d
+  row-own : rowOf (withDesk t b d) b ≡ ownRow t b d
   unfolding withDesk cell
   row-own =
-      row-path (withDesk t b d n) b (d .arbiter) (λ k. at 0 (d .queued) k) _ _ _
+      row-path (withDesk t b d) b (d .arbiter) (λ k. at 0 (d .queued) k) _ _ _
       (at-put-same _ (t .rig .arbiters) b (d .arbiter) lo (omega (arith, z .arbiters)))
       (λ k. rw (at-put-same [] (t .queued) b (d .queued) lo (omega (arith, z .queued .rows))))
       (cell-put (t .held) b (d .held) lo (omega (arith, z .held .rows)) b)
@@ -203,7 +203,7 @@ module _ (t : Tables) (z : Sized t) (b : ℕ) (lo : 1 ≤ b) (hi : b ≤ siteLim
 
   -- all of it, from what the rows come to
   pub rig-with : (rows : ℕ → R.Row) (ms : List Message) → ((j : ℕ) → j ≢ b → otherRow t b d j ≡ rows j) → ownRow t b d ≡ rows b
-      → rigOf (withDesk t b d n) ms ≡ record { sites = sitesWith t b (d .site .mode); clock = clockWith t b (d .site .clock); rows = rows; underWay = map sentOf ms }
+      → rigOf (withDesk t b d) ms ≡ record { sites = sitesWith t b (d .site .mode); clock = clockWith t b (d .site .clock); rows = rows; underWay = map sentOf ms }
   rig-with rows ms other own =
       rig-path
       (sites-path (site-with (λ (x : Site). modeNumber (x .mode))) (site-with (λ (x : Site). seqIn (x .mode))) (site-with (λ (x : Site). failedIn (x .mode))))

@@ -6,7 +6,8 @@ use mathlib.Core.List.{List, [], _∷_, _++_}
 use Rattle.rig.specs.declared.Event.{Event}
 use Rattle.rig.specs.Limits.{messageLimit}
 use Rattle.model.specs.Shape.{wellShaped}
-use Rattle.model.specs.Event.{Stored, underWay, event}
+use Rattle.model.specs.State.{Stored}
+use Rattle.model.specs.Event.{event}
 use Rattle.model.specs.Run.{fresh, run, OfRun, Sound, Demand3}
 use Rattle.model.specs.Always.{AlwaysShaped}
 use Rattle.model.proofs.Theorem.{run-of, demand3}
@@ -28,7 +29,7 @@ module _ {s : Stored} (r : OfRun s) where
     same = ap (λ (x : Stored). event x e .next) (r .same) ∙ sym (run-more (fresh (r .size) (r .sets) (r .list)) (r .events) e);
   }
 
-  pub run-shaped : wellShaped (s .tables) (underWay s) ≡ true
+  pub run-shaped : wellShaped s ≡ true
   unfolding AlwaysShaped
   run-shaped = rw (r .same) (always-shaped (r .size) (r .sets) (r .list) (r .events) (r .passed) .0)
 

@@ -1,51 +1,108 @@
 -- What the test of a state's shape says of it.
 use Prim.Native.Nat.{ℕ, _≤_, _<_}
-use mathlib.Core.Path.{_≡_}
+use mathlib.Core.Path.{_≡_, refl}
 use mathlib.Core.Logic.{⊎-elim}
-use mathlib.Core.Bool.{true, _||_}
-use mathlib.Core.List.{List}
+use mathlib.Core.Bool.{true, false}
 use native.Mathlib.Omega.{arith}
 use lib.Dec.{eqb, leb}
-use lib.ListN.{length}
 use borrow.Author.Tests.{eqb-true, leb-true, leb-false}
 use Rattle.basics.specs.Helpers.{all}
-use Rattle.basics.proofs.Basics.{by-bool, and-split, or-either, all-at}
-use Rattle.rig.specs.declared.Message.{Message}
-use Rattle.rig.specs.Limits.{siteLimit, messageLimit}
-use Rattle.model.specs.Tables.{at}
+use Rattle.basics.proofs.Basics.{by-bool, clash, and-split, or-either, all-at}
+use Rattle.rig.specs.Limits.{siteLimit, messageLimit, eventLimit, numberLimit, SiteNumber}
+use Rattle.model.specs.Tables.{at, cell}
 use Rattle.model.specs.Setup.{setupCode}
-use Rattle.model.specs.State.{Tables, sizeOf, hasMember}
-use Rattle.model.specs.Shape.{setsShaped, messagesShaped, tablesShaped, wellShaped}
+use Rattle.model.specs.State.{Tables, Stored, underWay, sizeOf, setsOf, inRange, hasMember, siteOf, arbiterOf, heldOf}
+use Rattle.model.specs.Shape.{isNumber, setShaped, modeShaped, siteShaped, arbiterShaped, placeShaped, rigShaped, entryShaped, ownShaped, everywhere, messagesShaped, tablesShaped, wellShaped}
 use Rattle.model.proofs.Tables.{at-past}
 use Rattle.model.proofs.Setup.{Accepted, accepts}
 use Rattle.model.proofs.Lawful.{site-within, tie-within}
 
-pub record Shaped (t : Tables) (ms : List Message) : Type 0 where
-  pub sets : Accepted (sizeOf t) (t .rig .sets)
-  pub past : (k : ℕ) → sizeOf t < k → at 0 (t .rig .sets) k ≡ 0
-  pub messages : messagesShaped t ms ≡ true
+pub record Shaped (s : Stored) : Type 0 where
+  pub few : s .count ≤ messageLimit
+  pub sets : Accepted (sizeOf (s .tables)) (setsOf (s .tables))
+  pub past : (k : ℕ) → sizeOf (s .tables) < k → at 0 (setsOf (s .tables)) k ≡ 0
+  pub places : (k : ℕ) → SiteNumber k → placeShaped (s .tables .rig) k ≡ true
+  pub held : everywhere (ownShaped (setsOf (s .tables))) (s .tables .held) ≡ true
+  pub messages : messagesShaped (sizeOf (s .tables)) (setsOf (s .tables)) (underWay s) ≡ true
 
-pub shaped : (t : Tables) (ms : List Message) → wellShaped t ms ≡ true → Shaped t ms
-unfolding wellShaped tablesShaped setsShaped
-shaped t ms e =
-    let a = and-split (tablesShaped t) _ e in
-    let b = and-split (setsShaped t) _ (a .0) in
-    let s = and-split (eqb (setupCode (sizeOf t) (t .rig .sets)) 0) (all (λ k. leb k (sizeOf t) || eqb (at 0 (t .rig .sets) k) 0) siteLimit) (b .0) in
-    let acc = accepts (sizeOf t) (t .rig .sets) (eqb-true _ 0 (s .0)) in
+-- the set of a site past N
+none-past : (t : Tables) → Accepted (sizeOf t) (setsOf t) → ((k : ℕ) → SiteNumber k → placeShaped (t .rig) k ≡ true) → (k : ℕ) → sizeOf t < k → at 0 (setsOf t) k ≡ 0
+unfolding placeShaped setShaped
+none-past t a p k h = by-bool (leb k siteLimit)
+    (λ u. ⊎-elim
+    (λ v. let w = leb-true k (sizeOf t) v in absurd (omega arith))
+    (λ v. eqb-true _ 0 v)
+    (or-either (leb k (sizeOf t)) (eqb (at 0 (setsOf t) k) 0) (and-split (setShaped (sizeOf t) k (at 0 (setsOf t) k)) _ (p k (record { low = omega arith; high = leb-true k siteLimit u })) .0)))
+    (λ u. at-past 0 (setsOf t) k (omega (arith, a .long, leb-false k siteLimit u)))
+
+pub shaped : (s : Stored) → wellShaped s ≡ true → Shaped s
+unfolding wellShaped tablesShaped rigShaped
+shaped s e =
+    let t = s .tables in
+    let a = and-split (leb (s .count) messageLimit) _ e in
+    let b = and-split (tablesShaped t) _ (a .1) in
+    let c = and-split (rigShaped (t .rig)) _ (b .0) in
+    let d = and-split (eqb (setupCode (sizeOf t) (setsOf t)) 0) _ (c .0) in
+    let f = and-split (leb (t .rig .accepted) eventLimit) _ (d .1) in
+    let acc = accepts (sizeOf t) (setsOf t) (eqb-true _ 0 (d .0)) in
+    let places : (k : ℕ) → SiteNumber k → placeShaped (t .rig) k ≡ true = λ k r. all-at (placeShaped (t .rig)) siteLimit k (f .1) (r .low) (r .high) in
     record {
+      few = leb-true (s .count) messageLimit (a .0);
       sets = acc;
-      past = λ k h. by-bool (leb k siteLimit)
-          (λ u. ⊎-elim
-          (λ v. let w = leb-true k (sizeOf t) v in absurd (omega arith))
-          (λ v. eqb-true _ 0 v)
-          (or-either (leb k (sizeOf t)) (eqb (at 0 (t .rig .sets) k) 0) (all-at (λ i. leb i (sizeOf t) || eqb (at 0 (t .rig .sets) i) 0) siteLimit k (s .1) (omega arith) (leb-true k siteLimit u))))
-          (λ u. at-past 0 (t .rig .sets) k (omega (arith, acc .long, leb-false k siteLimit u)));
-      messages = and-split (leb (length ms) messageLimit) (messagesShaped t ms) (a .1) .1;
+      past = none-past t acc places;
+      places = places;
+      held = and-split (everywhere (ownShaped (setsOf t)) (t .held)) _ (c .1) .0;
+      messages = b .1;
     }
 
--- a site and a member of its set are among 1 to N
-pub ties : (t : Tables) (ms : List Message) → Shaped t ms → (k j : ℕ) → hasMember t k j ≡ true → (1 ≤ k) × (k ≤ sizeOf t) × (1 ≤ j) × (j ≤ sizeOf t)
-ties t ms s k j e =
-    let a = site-within (sizeOf t) (t .rig .sets) (s .sets) (s .past) k j e in
-    let b = tie-within (sizeOf t) (t .rig .sets) (s .sets) (s .past) k j e in
-    (a .0, a .1, b .0, b .1)
+pub within : (n k : ℕ) → inRange n k ≡ true → (1 ≤ k) × (k ≤ n)
+within n k e = let w = and-split (leb 1 k) (leb k n) e in (leb-true 1 k (w .0), leb-true k n (w .1))
+
+number : (n : ℕ) → isNumber n ≡ true → n ≤ numberLimit
+unfolding isNumber
+number n e = leb-true n numberLimit e
+
+module _ (s : Stored) (h : Shaped s) where
+  abbrev t : Tables
+  t = s .tables
+
+  -- a site and a member of its set are among 1 to N
+  pub ties : (k j : ℕ) → hasMember (setsOf t) k j ≡ true → (1 ≤ k) × (k ≤ sizeOf t) × (1 ≤ j) × (j ≤ sizeOf t)
+  ties k j e =
+      let a = site-within (sizeOf t) (setsOf t) (h .sets) (h .past) k j e in
+      let b = tie-within (sizeOf t) (setsOf t) (h .sets) (h .past) k j e in
+      (a .0, a .1, b .0, b .1)
+
+  pub listed : (k : ℕ) → inRange (sizeOf t) k ≡ true → SiteNumber k
+  listed k e = let r = within (sizeOf t) k e in let z = h .sets .high in record { low = r .0; high = omega (arith, r .1) }
+
+  pub tied-listed : (k j : ℕ) → hasMember (setsOf t) k j ≡ true → SiteNumber k × SiteNumber j
+  tied-listed k j e =
+      let w = ties k j e in
+      let z = h .sets .high in
+      (record { low = w .0; high = omega (arith, w .1) }, record { low = w .2; high = omega (arith, w .3) })
+
+  -- the numbers of a site and of its arbiter
+  pub clock : (k : ℕ) → inRange (sizeOf t) k ≡ true → siteOf t k .clock ≤ numberLimit
+  unfolding placeShaped siteShaped
+  clock k e =
+      let a = and-split (setShaped (sizeOf t) k (at 0 (setsOf t) k)) _ (h .places k (listed k e)) .1 in
+      let b = and-split (siteShaped (sizeOf t) k (siteOf t k)) _ a .0 in
+      number _ (and-split (isNumber (siteOf t k .clock)) (modeShaped (siteOf t k .mode)) (rw e at b) .0)
+
+  pub grant : (j : ℕ) → inRange (sizeOf t) j ≡ true → arbiterOf t j .grant ≤ numberLimit
+  unfolding placeShaped arbiterShaped
+  grant j e =
+      let a = and-split (setShaped (sizeOf t) j (at 0 (setsOf t) j)) _ (h .places j (listed j e)) .1 in
+      let b = and-split (siteShaped (sizeOf t) j (siteOf t j)) (arbiterShaped (sizeOf t) (setsOf t) j (arbiterOf t j)) a .1 in
+      number _ (and-split (isNumber (arbiterOf t j .grant)) _ b .0)
+
+  pub held-number : (k j : ℕ) → inRange (sizeOf t) k ≡ true → SiteNumber j → heldOf t k j ≤ numberLimit
+  unfolding everywhere ownShaped entryShaped
+  held-number k j e i =
+      let r = listed k e in
+      let a = all-at (λ x. all (λ y. ownShaped (setsOf t) x y (cell (t .held) x y)) siteLimit) siteLimit k (h .held) (r .low) (r .high) in
+      let b = all-at (λ y. ownShaped (setsOf t) k y (cell (t .held) k y)) siteLimit j a (i .low) (i .high) in
+      by-bool (hasMember (setsOf t) k j)
+      (λ c. number _ (rw c at b))
+      (λ c. let z = eqb-true (heldOf t k j) 0 (rw c at b) in omega arith)

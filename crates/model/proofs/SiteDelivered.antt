@@ -39,12 +39,12 @@ waiting-failed (Waiting s true) a b = refl
 waiting-failed (Waiting s false) a b = clash false b refl
 waiting-failed Inside a b = clash false a refl
 
-module _ (t : Tables) (z : Sized t) (b : ℕ) (lo : 1 ≤ b) (hi : b ≤ siteLimit) (n : ℕ) where
+module _ (t : Tables) (z : Sized t) (b : ℕ) (lo : 1 ≤ b) (hi : b ≤ siteLimit) where
   -- the rig once site b has the desk u
   pub of-site : (u : Desk) (ms : List Message) → ArbiterKept (deskOf t b) u
-      → rigOf (withDesk t b u n) ms ≡ record { sites = sitesWith t b (u .site .mode); clock = clockWith t b (u .site .clock); rows = λ j. otherRow t b u j; underWay = map sentOf ms }
+      → rigOf (withDesk t b u) ms ≡ record { sites = sitesWith t b (u .site .mode); clock = clockWith t b (u .site .clock); rows = λ j. otherRow t b u j; underWay = map sentOf ms }
   unfolding deskOf cell
-  of-site u ms k = rig-with t z b lo hi u n (λ j. otherRow t b u j) ms (λ j ne. refl) (rw (k .arbiter, k .queued))
+  of-site u ms k = rig-with t z b lo hi u (λ j. otherRow t b u j) ms (λ j ne. refl) (rw (k .arbiter, k .queued))
 
   -- the entries of one member alone
   abbrev pub entered-row : Desk → ℕ → R.Row
@@ -73,12 +73,12 @@ module _ (t : Tables) (z : Sized t) (b : ℕ) (lo : 1 ≤ b) (hi : b ≤ siteLim
     pub of-entry : (u : Desk) (sent : List Message) (v : P.View) → ArbiterKept (deskOf t b) u → u .site .mode ≡ modeOf t b → u .site .clock ≡ siteOf t b .clock
         → ((i : ℕ) → i ≢ j → heldFor u i ≡ heldOf t b i) → ((i : ℕ) → i ≢ j → heirFor u i ≡ heirOf t b i) → ((i : ℕ) → i ≢ j → inquiredFor u i ≡ inquiredOf t b i)
         → entered-row u j ≡ R.rowOf v.tables → map sentOf sent ≡ R.sentBy j v.messages
-        → rigOf (withDesk t b u n) (rest ++ sent) ≡ record { sites = sitesOf t; clock = λ k. siteOf t k .clock; rows = update (λ i. rowOf t i) j (R.rowOf v.tables); underWay = map sentOf rest ++ R.sentBy j v.messages }
+        → rigOf (withDesk t b u) (rest ++ sent) ≡ record { sites = sitesOf t; clock = λ k. siteOf t k .clock; rows = update (λ i. rowOf t i) j (R.rowOf v.tables); underWay = map sentOf rest ++ R.sentBy j v.messages }
     of-entry u sent v k m c eh er ei row ms =
         of-site u (rest ++ sent) k
         ∙ rig-path (sites-kept t b u m) (update-self _ b _ (sym c)) (rows-of-one u j eh er ei ∙ ap (λ (x : R.Row). update (λ i. rowOf t i) j x) row) (map-append sentOf rest sent ∙ rw ms)
 
-    pub nothing : rigOf (withDesk t b (deskOf t b) n) (rest ++ []) ≡ record { sites = sitesOf t; clock = λ k. siteOf t k .clock; rows = update (λ i. rowOf t i) j (R.rowOf (localAt t j)); underWay = map sentOf rest ++ R.sentBy j [] }
+    pub nothing : rigOf (withDesk t b (deskOf t b)) (rest ++ []) ≡ record { sites = sitesOf t; clock = λ k. siteOf t k .clock; rows = update (λ i. rowOf t i) j (R.rowOf (localAt t j)); underWay = map sentOf rest ++ R.sentBy j [] }
     unfolding deskOf cell R.sentBy
     nothing =
         of-entry (deskOf t b) [] (P.view (localAt t j) []) (record { arbiter = refl; queued = refl }) refl refl (λ i ne. refl) (λ i ne. refl) (λ i ne. refl)
@@ -94,7 +94,7 @@ module _ (t : Tables) (z : Sized t) (b : ℕ) (lo : 1 ≤ b) (hi : b ≤ siteLim
 
       -- a site that waits and has failed yields j
       pub yields : waits (deskOf t b) ≡ true → hasFailed (deskOf t b) ≡ true
-          → rigOf (withDesk t b (yielded (deskOf t b) j .desk) n) (rest ++ yielded (deskOf t b) j .sent)
+          → rigOf (withDesk t b (yielded (deskOf t b) j .desk)) (rest ++ yielded (deskOf t b) j .sent)
           ≡ record { sites = sitesOf t; clock = λ k. siteOf t k .clock; rows = update (λ i. rowOf t i) j (R.rowOf ((S.yielded (P.view (localAt t j) []) b) .tables)); underWay = map sentOf rest ++ R.sentBy j ((S.yielded (P.view (localAt t j) []) b) .messages) }
       unfolding yielded failedSet deskOf cell S.yielded R.sentBy
       yields w f =
@@ -106,7 +106,7 @@ module _ (t : Tables) (z : Sized t) (b : ℕ) (lo : 1 ≤ b) (hi : b ≤ siteLim
           refl
 
       pub transfer-delivered : (ms : List Message) (x m : ℕ)
-          → rigOf (withDesk t b (onTransfer (deskOf t b) j x m .desk) n) (rest ++ onTransfer (deskOf t b) j x m .sent) ≡ R.delivered (systemOf t) (rigOf t ms) (map sentOf rest) j (M.transfer b x m)
+          → rigOf (withDesk t b (onTransfer (deskOf t b) j x m .desk)) (rest ++ onTransfer (deskOf t b) j x m .sent) ≡ R.delivered (systemOf t) (rigOf t ms) (map sentOf rest) j (M.transfer b x m)
       unfolding onTransfer R.delivered S.handled S.onTransfer deskOf cell R.sentBy
       transfer-delivered ms x m =
           let y = desk-sized t b z lo hi in
@@ -121,7 +121,7 @@ module _ (t : Tables) (z : Sized t) (b : ℕ) (lo : 1 ≤ b) (hi : b ≤ siteLim
 
       -- an inquire is remembered
       remembers : (m : ℕ)
-          → rigOf (withDesk t b (remembered (deskOf t b) j m) n) (rest ++ [])
+          → rigOf (withDesk t b (remembered (deskOf t b) j m)) (rest ++ [])
           ≡ record { sites = sitesOf t; clock = λ k. siteOf t k .clock; rows = update (λ i. rowOf t i) j (R.rowOf (S.remembered (localAt t j) b m)); underWay = map sentOf rest ++ R.sentBy j [] }
       unfolding remembered deskOf cell R.sentBy
       remembers m =
@@ -132,7 +132,7 @@ module _ (t : Tables) (z : Sized t) (b : ℕ) (lo : 1 ≤ b) (hi : b ≤ siteLim
           refl
 
       pub inquire-delivered : (ms : List Message) (m : ℕ)
-          → rigOf (withDesk t b (onInquire (deskOf t b) j m .desk) n) (rest ++ onInquire (deskOf t b) j m .sent) ≡ R.delivered (systemOf t) (rigOf t ms) (map sentOf rest) j (M.inquire b m)
+          → rigOf (withDesk t b (onInquire (deskOf t b) j m .desk)) (rest ++ onInquire (deskOf t b) j m .sent) ≡ R.delivered (systemOf t) (rigOf t ms) (map sentOf rest) j (M.inquire b m)
       unfolding onInquire yieldedOrRemembered R.delivered S.handled S.onInquire deskOf cell
       inquire-delivered ms m =
           let k = waits-same (modeOf t b) in

@@ -25,8 +25,7 @@ use Rattle.protocol.proofs.RigKept as K
 use Rattle.protocol.proofs.Demand3 as D
 use Rattle.model.specs.Tables.{at, cell}
 use Rattle.model.specs.Setup.{setupCode, restingSite, freeArbiter, keptSets, freshRig}
-use Rattle.model.specs.State.{isWaiting, isInside, seqIn, failedIn, sizeOf, modeOf, freshTables}
-use Rattle.model.specs.Event.{Stored, underWay}
+use Rattle.model.specs.State.{isWaiting, isInside, seqIn, failedIn, sizeOf, modeOf, freshTables, Stored, underWay}
 use Rattle.model.specs.Run.{fresh, run, freeAt, isOut, heldAt, isBack, places, insideCount, waitingCount, stuck, Sound, Demand3}
 use Rattle.model.proofs.Tables.{at-same, Square}
 use Rattle.model.proofs.Setup.{Accepted, accepts}

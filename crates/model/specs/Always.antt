@@ -10,16 +10,16 @@ use Rattle.rig.specs.declared.Event.{Event}
 use Rattle.rig.specs.declared.Message.{Message}
 use Rattle.rig.specs.Limits.{messageLimit, eventLimit}
 use Rattle.rig.specs.Messages.{REPLY, RELEASE, YIELD}
-use Rattle.model.specs.State.{Tables, seqIn, siteOf, modeOf, arbiterOf, heldOf, inquiredOf, queuedOf, deskOf}
+use Rattle.model.specs.State.{Tables, Stored, underWay, seqIn, siteOf, modeOf, arbiterOf, heldOf, inquiredOf, queuedOf, deskOf}
 use Rattle.model.specs.Arbiter.{fromHolder, isEarly}
 use Rattle.model.specs.Site.{takes}
 use Rattle.model.specs.Shape.{wellShaped}
-use Rattle.model.specs.Event.{numbersUpTo, Stored, underWay, event}
+use Rattle.model.specs.Event.{numbersUpTo, event}
 use Rattle.model.specs.Run.{fresh, run, Always}
 
 -- Every state of a run is well shaped, and no event of a run is refused with 10,
 unfoldable pub AlwaysShaped : Type 0
-AlwaysShaped = Always (λ s. (wellShaped (s .tables) (underWay s) ≡ true) × ((e : Event) → event s e .code ≢ 10))
+AlwaysShaped = Always (λ s. (wellShaped s ≡ true) × ((e : Event) → event s e .code ≢ 10))
 
 -- nor with 13, where the lent list is 1,024 entries long at the start.
 unfoldable pub AlwaysLong : Type 0

@@ -4,8 +4,8 @@ use Prim.Native.Nat.{ℕ, _+_}
 use mathlib.Core.List.{List, [], _∷_}
 use Rattle.rig.specs.declared.Event.{Event}
 use Rattle.basics.specs.Helpers.{lowest}
-use Rattle.model.specs.State.{Tables, sizeOf, modeOf, isInside}
-use Rattle.model.specs.Event.{Stored, Answer, event}
+use Rattle.model.specs.State.{Tables, Stored, sizeOf, modeOf, isInside}
+use Rattle.model.specs.Event.{Answer, event}
 use Rattle.model.specs.Run.{waitingCount}
 
 pub record Line : Type 0 where

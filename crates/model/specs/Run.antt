@@ -9,8 +9,8 @@ use Rattle.rig.specs.declared.Event.{Event}
 use Rattle.rig.specs.Messages.{REPLY, RELEASE, YIELD}
 use Rattle.basics.specs.Helpers.{count, tally}
 use Rattle.model.specs.Setup.{setupCode}
-use Rattle.model.specs.State.{Tables, sizeOf, modeOf, isInside, isWaiting, arbiterOf, heldOf, freshTables}
-use Rattle.model.specs.Event.{Stored, underWay, event}
+use Rattle.model.specs.State.{Tables, sizeOf, modeOf, isInside, isWaiting, arbiterOf, heldOf, freshTables, Stored, underWay}
+use Rattle.model.specs.Event.{event}
 
 -- "The run starts from the fresh state of sets that setup passes ... with nothing under way": whatever the lent list holds
 unfoldable pub fresh : ℕ → List ℕ → List Message → Stored

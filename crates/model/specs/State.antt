@@ -3,13 +3,15 @@ use Prim.Native.Nat.{ℕ}
 use mathlib.Core.Bool.{Bool, true, false, _&&_}
 use mathlib.Core.List.{List, []}
 use lib.Dec.{leb}
+use lib.ListN.{take, getD}
 use Rattle.rig.specs.declared.Rig.{Rig}
 use Rattle.rig.specs.declared.Site.{Site}
 use Rattle.rig.specs.declared.Arbiter.{Arbiter}
 use Rattle.rig.specs.declared.Desk.{Desk}
 use Rattle.rig.specs.declared.Mode.{Mode}
 use Rattle.rig.specs.declared.Mode.the-variants.{Rest, Waiting, Inside}
-use Rattle.rig.specs.Limits.{blankTable}
+use Rattle.rig.specs.declared.Message.{Message}
+use Rattle.rig.specs.Limits.{HELD, HEIR, INQUIRED, QUEUED, blankTables}
 use Rattle.model.specs.Tables.{at, put, cell}
 use Rattle.model.specs.Sets.{member}
 use Rattle.model.specs.Setup.{restingSite, freeArbiter, freshRig}
@@ -24,13 +26,22 @@ pub record Tables : Type 0 where
   pub inquired : List (List ℕ)
   pub queued : List (List ℕ)
 
--- a rig and its four tables of numbers
-abbrev pub tables : Rig → List (List ℕ) → List (List ℕ) → List (List ℕ) → List (List ℕ) → Tables
-tables g held heir inquired queued = record { rig = g; held = held; heir = heir; inquired = inquired; queued = queued }
+-- a rig and its tables of numbers, each at its index
+abbrev pub tables : Rig → List (List (List ℕ)) → Tables
+tables g ts = record { rig = g; held = getD ts HELD []; heir = getD ts HEIR []; inquired = getD ts INQUIRED []; queued = getD ts QUEUED [] }
 
 -- "Fresh: all but N and the sets zero, at rest": the tables of setup's sets
 unfoldable pub freshTables : ℕ → List ℕ → Tables
-freshTables n sets = record { rig = freshRig n sets; held = blankTable; heir = blankTable; inquired = blankTable; queued = blankTable }
+freshTables n sets = tables (freshRig n sets) blankTables
+
+-- The state of a rig as its caller keeps it: the tables, the lent list of messages, and how many of its entries are under way.
+pub record Stored : Type 0 where
+  pub tables : Tables
+  pub list : List Message
+  pub count : ℕ
+
+abbrev pub underWay : Stored → List Message
+underWay s = take (s .count) (s .list)
 
 -- What a mode says
 
@@ -65,15 +76,16 @@ failedIn Inside = false
 abbrev pub sizeOf : Tables → ℕ
 sizeOf t = t .rig .size
 
-abbrev pub inRange : Tables → ℕ → Bool
-inRange t k = leb 1 k && leb k (sizeOf t)
+abbrev pub setsOf : Tables → List ℕ
+setsOf t = t .rig .sets
 
-abbrev pub membersOf : Tables → ℕ → ℕ
-membersOf t k = at 0 (t .rig .sets) k
+-- one of the sites 1 to n
+abbrev pub inRange : ℕ → ℕ → Bool
+inRange n k = leb 1 k && leb k n
 
 -- arbiter j is a member of the request set of site k
-abbrev pub hasMember : Tables → ℕ → ℕ → Bool
-hasMember t k j = member (membersOf t k) j
+abbrev pub hasMember : List ℕ → ℕ → ℕ → Bool
+hasMember sets k j = member (at 0 sets k) j
 
 abbrev pub siteOf : Tables → ℕ → Site
 siteOf t k = at restingSite (t .rig .sites) k
@@ -104,7 +116,7 @@ unfoldable pub deskOf : Tables → ℕ → Desk
 deskOf t s = record {
   size = sizeOf t;
   number = s;
-  members = membersOf t s;
+  members = at 0 (setsOf t) s;
   site = siteOf t s;
   arbiter = arbiterOf t s;
   held = at [] (t .held) s;
@@ -113,18 +125,28 @@ deskOf t s = record {
   queued = at [] (t .queued) s;
 }
 
--- the tables once site s has the desk d, and a number of accepted events
-unfoldable pub withDesk : Tables → ℕ → Desk → ℕ → Tables
-withDesk t s d n = record {
+-- the tables once site s has the desk d
+unfoldable pub withDesk : Tables → ℕ → Desk → Tables
+withDesk t s d = record {
   rig = record {
     size = t .rig .size;
     sets = t .rig .sets;
     sites = put (t .rig .sites) s (d .site);
     arbiters = put (t .rig .arbiters) s (d .arbiter);
-    accepted = n;
+    accepted = t .rig .accepted;
   };
   held = put (t .held) s (d .held);
   heir = put (t .heir) s (d .heir);
   inquired = put (t .inquired) s (d .inquired);
   queued = put (t .queued) s (d .queued);
+}
+
+-- the tables with a number of accepted events
+unfoldable pub withAccepted : Tables → ℕ → Tables
+withAccepted t n = record {
+  rig = record { size = t .rig .size; sets = t .rig .sets; sites = t .rig .sites; arbiters = t .rig .arbiters; accepted = n };
+  held = t .held;
+  heir = t .heir;
+  inquired = t .inquired;
+  queued = t .queued;
 }

@@ -8,7 +8,7 @@ abbrev pub siteLimit : ℕ
 siteLimit = 31
 
 -- a number that may be a site's
-pub record Listed (k : ℕ) : Type 0 where
+pub record SiteNumber (k : ℕ) : Type 0 where
   pub low : 1 ≤ k
   pub high : k ≤ siteLimit
 
@@ -28,6 +28,26 @@ numberLimit = 2_000_000
 abbrev pub blankRow : List ℕ
 blankRow = replicate siteLimit 0
 
--- "Fresh: all but N and the sets zero": a table has a row for each site or arbiter
+-- a table has a row for each site or arbiter
 abbrev pub blankTable : List (List ℕ)
 blankTable = replicate siteLimit blankRow
+
+-- the tables of numbers, and the index of each
+abbrev pub tableCount : ℕ
+tableCount = 4
+
+abbrev pub HELD : ℕ
+HELD = 0
+
+abbrev pub HEIR : ℕ
+HEIR = 1
+
+abbrev pub INQUIRED : ℕ
+INQUIRED = 2
+
+abbrev pub QUEUED : ℕ
+QUEUED = 3
+
+-- "Fresh: all but N and the sets zero"
+abbrev pub blankTables : List (List (List ℕ))
+blankTables = replicate tableCount blankTable

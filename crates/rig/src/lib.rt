@@ -1,7 +1,8 @@
 // The plain data of a rig: sites, arbiters, messages and events, with every limit and kind code of document 01.
 ghost use mathlib.Core.Path.{_≡_};
 ghost use Rattle.rig.specs.Messages.{request, reply, release, inquire, fail, yield, transfer};
-ghost use Rattle.rig.specs.Limits.{blankTable};
+ghost use Rattle.rig.specs.Limits.{blankTables};
+ghost use Rattle.rig.specs.Answers.{refused};
 
 // What a site is doing. Only a waiting site has a sequence number and a failed mark.
 pub enum Mode {
@@ -48,9 +49,12 @@ pub struct Desk {
     pub queued: [u64; Rig::SITES],
 }
 
-// A table of numbers. `held`, `heir` and `inquired` have a row for each site and a column for each arbiter;
-// `queued` has a row for each arbiter and a column for each site.
+// A table of numbers.
 pub type Table = [[u64; Rig::SITES]; Rig::SITES];
+
+// The tables of a rig, each at its index. HELD, HEIR and INQUIRED have a row for each site and a column for each arbiter;
+// QUEUED has a row for each arbiter and a column for each site.
+pub type Tables = [Table; Rig::TABLES];
 
 pub struct Message {
     pub kind: u64,
@@ -67,8 +71,26 @@ pub enum Event {
     Deliver(u64, u64),
 }
 
+// The code of an event, the next rig, and how many messages are now under way. The tables and the list are written where the caller
+// has them.
+pub struct Answer {
+    pub code: u64,
+    pub rig: Rig,
+    pub count: usize,
+}
+
 impl Rig {
     pub const SITES: usize = 31;
+
+    pub const TABLES: usize = 4;
+
+    pub const HELD: usize = 0;
+
+    pub const HEIR: usize = 1;
+
+    pub const INQUIRED: usize = 2;
+
+    pub const QUEUED: usize = 3;
 
     pub const MESSAGES: usize = 1_024;
 
@@ -76,15 +98,31 @@ impl Rig {
 
     pub const NUMBERS: u64 = 2_000_000;
 
-    // A table in which nothing is held, named as heir, inquired or queued.
-    pub fn blank() -> Table
-        ensures { λ r. ⌜ r ≡ blankTable ⌝ }
+    // Tables in which nothing is held, named as heir, inquired or queued.
+    pub fn blank() -> Tables
+        ensures { λ r. ⌜ r ≡ blankTables ⌝ }
     {
-        [[0; Rig::SITES]; Rig::SITES]
+        [[[0; Rig::SITES]; Rig::SITES]; Rig::TABLES]
+    }
+}
+
+impl Answer {
+    // A refusal: the code, and the rig and the count that came.
+    pub fn refused(code: u64, rig: Rig, count: usize) -> Answer
+        ensures { λ r. ⌜ r ≡ refused code rig count ⌝ }
+    {
+        Answer {
+            code: code,
+            rig: rig,
+            count: count,
+        }
     }
 }
 
 impl Message {
+    // A message in plain numbers has one for each of its fields.
+    pub const FIELDS: usize = 5;
+
     pub const REQUEST: u64 = 1;
 
     pub const REPLY: u64 = 2;

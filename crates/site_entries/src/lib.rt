@@ -8,7 +8,7 @@ ghost use mathlib.Core.Path.{_≡_};
 ghost use mathlib.Core.Bool.{not, _||_, cond};
 ghost use Prim.Native.Nat.{_≤_};
 ghost use lib.Dec.{eqb};
-ghost use Rattle.rig.specs.Limits.{siteLimit, Listed};
+ghost use Rattle.rig.specs.Limits.{siteLimit, SiteNumber};
 ghost use Rattle.model.specs.Sets.{member};
 ghost use Rattle.model.specs.Site.{failedSet, allHeld, entered, taken, remembered, mustYield};
 
@@ -74,7 +74,7 @@ fn kept_inquire(q: u64, n: u64) -> u64
 
 // An inner call: number n is held for j.
 pub fn take(d: Desk, j: u64, n: u64) -> Desk
-    requires { ⌜ Listed j ⌝ }
+    requires { ⌜ SiteNumber j ⌝ }
     ensures { λ r. ⌜ r ≡ taken d j n ⌝ }
 {
     let i = (j - 1) as usize;
@@ -87,7 +87,7 @@ pub fn take(d: Desk, j: u64, n: u64) -> Desk
 
 // An inner call: an inquire from j with number n is remembered.
 pub fn remember(d: Desk, j: u64, n: u64) -> Desk
-    requires { ⌜ Listed j ⌝ }
+    requires { ⌜ SiteNumber j ⌝ }
     ensures { λ r. ⌜ r ≡ remembered d j n ⌝ }
 {
     let i = (j - 1) as usize;
@@ -98,7 +98,7 @@ pub fn remember(d: Desk, j: u64, n: u64) -> Desk
 
 // An inner call: member j is held, with a remembered inquire.
 pub fn must_yield(d: Desk, j: u64) -> bool
-    requires { ⌜ Listed j ⌝ }
+    requires { ⌜ SiteNumber j ⌝ }
     ensures { λ r. ⌜ r ≡ mustYield d j ⌝ }
 {
     if !is_member(d.members, j) {

@@ -6,11 +6,11 @@ ghost use Prim.Native.Nat.{_<_, _≤_, _+_};
 ghost use lib.ListN.{length};
 ghost use Rattle.model.specs.Site.{enteredOrYielded, onReply, yieldedOrRemembered, onInquire, onFail, onTransfer};
 ghost use Rattle.list_rows.specs.Did.{Did};
-ghost use Rattle.rig.specs.Limits.{siteLimit, Listed};
+ghost use Rattle.rig.specs.Limits.{siteLimit, SiteNumber};
 
 // What follows once a number is held for j: the site is inside, or yields j, or waits on.
 fn enter_or_yield(d: Desk, j: u64, out: &mut [Row], count: usize) -> Acted
-    requires { ⌜ Listed j × (d .size ≤ siteLimit) × (count < length (now out)) ⌝ }
+    requires { ⌜ SiteNumber j × (d .size ≤ siteLimit) × (count < length (now out)) ⌝ }
     ensures { λ r. ⌜ Did (enteredOrYielded d j) count (now (out .entry)) (now (out .exit)) r ⌝ }
 {
     if site_entries::all_held(d) {
@@ -39,7 +39,7 @@ fn enter_or_yield(d: Desk, j: u64, out: &mut [Row], count: usize) -> Acted
 
 // An inner call: a reply about j, with number n.
 pub fn on_reply(d: Desk, j: u64, n: u64, out: &mut [Row], count: usize) -> Acted
-    requires { ⌜ Listed j × (d .size ≤ siteLimit) × (count < length (now out)) ⌝ }
+    requires { ⌜ SiteNumber j × (d .size ≤ siteLimit) × (count < length (now out)) ⌝ }
     ensures { λ r. ⌜ Did (onReply d j n) count (now (out .entry)) (now (out .exit)) r ⌝ }
 {
     let s = d.site;
@@ -68,7 +68,7 @@ pub fn on_reply(d: Desk, j: u64, n: u64, out: &mut [Row], count: usize) -> Acted
 
 // What a waiting site does with an inquire from j, with number n.
 fn yield_or_remember(d: Desk, j: u64, n: u64, out: &mut [Row], count: usize) -> Acted
-    requires { ⌜ Listed j × (count < length (now out)) ⌝ }
+    requires { ⌜ SiteNumber j × (count < length (now out)) ⌝ }
     ensures { λ r. ⌜ Did (yieldedOrRemembered d j n) count (now (out .entry)) (now (out .exit)) r ⌝ }
 {
     let i = (j - 1) as usize;
@@ -98,7 +98,7 @@ fn yield_or_remember(d: Desk, j: u64, n: u64, out: &mut [Row], count: usize) -> 
 
 // An inner call: an inquire from j, with number n.
 pub fn on_inquire(d: Desk, j: u64, n: u64, out: &mut [Row], count: usize) -> Acted
-    requires { ⌜ Listed j × (count < length (now out)) ⌝ }
+    requires { ⌜ SiteNumber j × (count < length (now out)) ⌝ }
     ensures { λ r. ⌜ Did (onInquire d j n) count (now (out .entry)) (now (out .exit)) r ⌝ }
 {
     let s = d.site;
@@ -128,7 +128,7 @@ pub fn on_fail(d: Desk, out: &mut [Row], count: usize) -> Acted
 
 // An inner call: a transfer from j that names x, with number n.
 pub fn on_transfer(d: Desk, j: u64, x: u64, n: u64, out: &mut [Row], count: usize) -> Acted
-    requires { ⌜ Listed j ⌝ }
+    requires { ⌜ SiteNumber j ⌝ }
     ensures { λ r. ⌜ Did (onTransfer d j x n) count (now (out .entry)) (now (out .exit)) r ⌝ }
 {
     let i = (j - 1) as usize;

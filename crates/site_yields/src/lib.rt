@@ -7,11 +7,11 @@ ghost use Prim.Native.Nat.{_<_, _≤_, _+_};
 ghost use lib.ListN.{length};
 ghost use Rattle.model.specs.Site.{yielded, yieldedIf, yieldedUpTo};
 ghost use Rattle.list_rows.specs.Did.{Did};
-ghost use Rattle.rig.specs.Limits.{siteLimit, Listed};
+ghost use Rattle.rig.specs.Limits.{siteLimit, SiteNumber};
 
 // An inner call: the site yields arbiter j.
 pub fn yield_member(d: Desk, j: u64, out: &mut [Row], count: usize) -> Acted
-    requires { ⌜ Listed j × (count < length (now out)) ⌝ }
+    requires { ⌜ SiteNumber j × (count < length (now out)) ⌝ }
     ensures { λ r. ⌜ Did (yielded d j) count (now (out .entry)) (now (out .exit)) r ⌝ }
 {
     let i = (j - 1) as usize;
@@ -26,7 +26,7 @@ pub fn yield_member(d: Desk, j: u64, out: &mut [Row], count: usize) -> Acted
 
 // One turn of `yield_members`: j is yielded, if it is held with a remembered inquire.
 fn yield_if(d: Desk, j: u64, out: &mut [Row], count: usize) -> Acted
-    requires { ⌜ Listed j × (count < length (now out)) ⌝ }
+    requires { ⌜ SiteNumber j × (count < length (now out)) ⌝ }
     ensures { λ r. ⌜ Did (yieldedIf d j) count (now (out .entry)) (now (out .exit)) r ⌝ }
 {
     if site_entries::must_yield(d, j) {

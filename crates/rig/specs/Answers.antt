@@ -1,0 +1,8 @@
+-- What a refused event answers.
+use Prim.Native.Nat.{ℕ}
+use Rattle.rig.specs.declared.Rig.{Rig}
+use Rattle.rig.specs.declared.Answer.{Answer}
+
+-- "Nothing of the state or a lent buffer changes then."
+abbrev pub refused : ℕ → Rig → ℕ → Answer
+refused code g count = record { code = code; rig = g; count = count }
