@@ -1,6 +1,6 @@
 // What an arbiter sends its holder, and how it grants. The desk is that of the arbiter's own site, and messages go to `out`, behind the
 // first `count` rows.
-use list_rows::Acted;
+use event_effects::Acted;
 use list_rows::Row;
 use list_rows::append;
 use arbiter_queue::head;
@@ -16,7 +16,7 @@ ghost use lib.ListN.{length};
 ghost use Rattle.rig.specs.Limits.{SiteNumber};
 ghost use Rattle.rig.specs.Messages.{inquire, transfer};
 ghost use Rattle.model.specs.Arbiter.{heldBy, nextHeir, granted, grantedHead};
-ghost use Rattle.list_rows.specs.Did.{Did, Sent};
+ghost use Rattle.event_effects.specs.Effects.{CarriesOut, Appends};
 ghost use Rattle.arbiter_grants.specs.Needs.{Room};
 
 // The permission is held by k, with grant number g; it asked with sequence number n.
@@ -49,7 +49,7 @@ pub fn inquire_of(number: u64, a: Arbiter) -> Message
 // If the queue isn't empty, a transfer that names the head goes to the holder.
 fn next_heir(d: Desk, out: &mut [Row], count: usize) -> usize
     requires { ⌜ Room d 0 1 count (now out) ⌝ }
-    ensures { λ r. ⌜ Sent (nextHeir d) count (now (out .entry)) (now (out .exit)) r ⌝ }
+    ensures { λ r. ⌜ Appends (nextHeir d) count (now (out .entry)) (now (out .exit)) r ⌝ }
 {
     let h = head(&d.queued, d.size);
     if h == 0 {
@@ -61,7 +61,7 @@ fn next_heir(d: Desk, out: &mut [Row], count: usize) -> usize
 // An inner call: grants k, which asked with sequence number n.
 pub fn grant(d: Desk, out: &mut [Row], count: usize, k: u64, n: u64) -> Acted
     requires { ⌜ Room d 1 2 count (now out) × SiteNumber k ⌝ }
-    ensures { λ r. ⌜ Did (granted d k n) count (now (out .entry)) (now (out .exit)) r ⌝ }
+    ensures { λ r. ⌜ CarriesOut (granted d k n) count (now (out .entry)) (now (out .exit)) r ⌝ }
 {
     let u = held_by(requeued(d, k, 0), d.arbiter.grant + 1, k, n);
     let replied = append(
@@ -79,7 +79,7 @@ pub fn grant(d: Desk, out: &mut [Row], count: usize, k: u64, n: u64) -> Acted
 // An inner call: grants the head, if any.
 pub fn grant_head(d: Desk, out: &mut [Row], count: usize) -> Acted
     requires { ⌜ Room d 1 2 count (now out) ⌝ }
-    ensures { λ r. ⌜ Did (grantedHead d) count (now (out .entry)) (now (out .exit)) r ⌝ }
+    ensures { λ r. ⌜ CarriesOut (grantedHead d) count (now (out .entry)) (now (out .exit)) r ⌝ }
 {
     let h = head(&d.queued, d.size);
     if h == 0 {
@@ -95,7 +95,7 @@ pub fn grant_head(d: Desk, out: &mut [Row], count: usize) -> Acted
 // An inner call: two messages, in this order.
 pub fn append_two(out: &mut [Row], count: usize, one: Message, other: Message) -> usize
     requires { ⌜ count + 2 ≤ length (now out) ⌝ }
-    ensures { λ r. ⌜ Sent (one ∷ other ∷ []) count (now (out .entry)) (now (out .exit)) r ⌝ }
+    ensures { λ r. ⌜ Appends (one ∷ other ∷ []) count (now (out .entry)) (now (out .exit)) r ⌝ }
 {
     let next = append(out, count, one);
     append(out, next, other)

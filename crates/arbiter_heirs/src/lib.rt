@@ -3,7 +3,7 @@
 use arbiter_grants::held_by;
 use arbiter_grants::inquire_of;
 use arbiter_grants::transfer_of;
-use list_rows::Acted;
+use event_effects::Acted;
 use list_rows::Row;
 use list_rows::append;
 use arbiter_queue::before_holder;
@@ -13,13 +13,13 @@ use arbiter_queue::requeued;
 use rig::Desk;
 ghost use Rattle.rig.specs.Limits.{SiteNumber};
 ghost use Rattle.model.specs.Arbiter.{headNamed, heirTakesOver};
-ghost use Rattle.list_rows.specs.Did.{Did, Sent};
+ghost use Rattle.event_effects.specs.Effects.{CarriesOut, Appends};
 ghost use Rattle.arbiter_grants.specs.Needs.{Room};
 
 // If the queue isn't empty, a transfer that names the head goes to the holder, then an inquire if the head comes before it.
 fn head_named(d: Desk, out: &mut [Row], count: usize) -> usize
     requires { ⌜ Room d 0 2 count (now out) ⌝ }
-    ensures { λ r. ⌜ Sent (headNamed d) count (now (out .entry)) (now (out .exit)) r ⌝ }
+    ensures { λ r. ⌜ Appends (headNamed d) count (now (out .entry)) (now (out .exit)) r ⌝ }
 {
     let h = head(&d.queued, d.size);
     if h == 0 {
@@ -35,7 +35,7 @@ fn head_named(d: Desk, out: &mut [Row], count: usize) -> usize
 // An inner call: queued site x, the heir of the holder, which has released, holds the permission now.
 pub fn heir_takes_over(d: Desk, out: &mut [Row], count: usize, x: u64) -> Acted
     requires { ⌜ Room d 1 2 count (now out) × SiteNumber x ⌝ }
-    ensures { λ r. ⌜ Did (heirTakesOver d x) count (now (out .entry)) (now (out .exit)) r ⌝ }
+    ensures { λ r. ⌜ CarriesOut (heirTakesOver d x) count (now (out .entry)) (now (out .exit)) r ⌝ }
 {
     let n = queued_at(&d.queued, x);
     let u = held_by(requeued(d, x, 0), d.arbiter.grant + 1, x, n);

@@ -3,7 +3,7 @@
 use arbiter_grants::grant_head;
 use arbiter_grants::held_by;
 use arbiter_heirs::heir_takes_over;
-use list_rows::Acted;
+use event_effects::Acted;
 use list_rows::Row;
 use arbiter_queue::queued_at;
 use arbiter_queue::requeued;
@@ -12,13 +12,13 @@ ghost use mathlib.Core.Path.{_≡_};
 ghost use Prim.Native.Nat.{_+_, _^_, _≤_, _<_};
 ghost use Rattle.rig.specs.Limits.{siteLimit, SiteNumber};
 ghost use Rattle.model.specs.Arbiter.{holderReleases, fromHolder, isEarly, earlyRelease, onRelease, onYield};
-ghost use Rattle.list_rows.specs.Did.{Did};
+ghost use Rattle.event_effects.specs.Effects.{CarriesOut};
 ghost use Rattle.arbiter_grants.specs.Needs.{Room};
 
 // The release of the holder; x is the heir that it names, 0 none.
 fn holder_releases(d: Desk, out: &mut [Row], count: usize, x: u64) -> Acted
     requires { ⌜ Room d 1 2 count (now out) × (x ≤ siteLimit) ⌝ }
-    ensures { λ r. ⌜ Did (holderReleases d x) count (now (out .entry)) (now (out .exit)) r ⌝ }
+    ensures { λ r. ⌜ CarriesOut (holderReleases d x) count (now (out .entry)) (now (out .exit)) r ⌝ }
 {
     if x == 0 {
         return grant_head(held_by(d, d.arbiter.grant, 0, 0), out, count);
@@ -59,7 +59,7 @@ fn is_early(d: Desk, k: u64, x: u64, n: u64) -> bool
 // The release of queued site k, which got the permission from the holder.
 fn early_release(d: Desk, out: &mut [Row], count: usize, k: u64) -> Acted
     requires { ⌜ Room d 2 2 count (now out) × SiteNumber k ⌝ }
-    ensures { λ r. ⌜ Did (earlyRelease d k) count (now (out .entry)) (now (out .exit)) r ⌝ }
+    ensures { λ r. ⌜ CarriesOut (earlyRelease d k) count (now (out .entry)) (now (out .exit)) r ⌝ }
 {
     let u = held_by(requeued(d, k, 0), d.arbiter.grant + 1, 0, 0);
     grant_head(u, out, count)
@@ -68,7 +68,7 @@ fn early_release(d: Desk, out: &mut [Row], count: usize, k: u64) -> Acted
 // An inner call: a release from k with number n; x is the heir that it names, 0 none.
 pub fn on_release(d: Desk, out: &mut [Row], count: usize, k: u64, x: u64, n: u64) -> Acted
     requires { ⌜ Room d 2 2 count (now out) × SiteNumber k × (x ≤ siteLimit) ⌝ }
-    ensures { λ r. ⌜ Did (onRelease d k x n) count (now (out .entry)) (now (out .exit)) r ⌝ }
+    ensures { λ r. ⌜ CarriesOut (onRelease d k x n) count (now (out .entry)) (now (out .exit)) r ⌝ }
 {
     if from_holder(d, k, n) {
         return holder_releases(d, out, count, x);
@@ -85,7 +85,7 @@ pub fn on_release(d: Desk, out: &mut [Row], count: usize, k: u64, x: u64, n: u64
 // An inner call: a yield from k with number n.
 pub fn on_yield(d: Desk, out: &mut [Row], count: usize, k: u64, n: u64) -> Acted
     requires { ⌜ Room d 1 2 count (now out) × SiteNumber k ⌝ }
-    ensures { λ r. ⌜ Did (onYield d k n) count (now (out .entry)) (now (out .exit)) r ⌝ }
+    ensures { λ r. ⌜ CarriesOut (onYield d k n) count (now (out .entry)) (now (out .exit)) r ⌝ }
 {
     if !from_holder(d, k, n) {
         return Acted {

@@ -4,7 +4,7 @@ use arbiter_grants::append_two;
 use arbiter_grants::grant;
 use arbiter_grants::inquire_of;
 use arbiter_grants::transfer_of;
-use list_rows::Acted;
+use event_effects::Acted;
 use list_rows::Row;
 use list_rows::append;
 use arbiter_queue::before_holder;
@@ -16,7 +16,7 @@ ghost use mathlib.Core.Path.{_≡_};
 ghost use Prim.Native.Nat.{_≤_};
 ghost use Rattle.rig.specs.Limits.{siteLimit, SiteNumber};
 ghost use Rattle.model.specs.Arbiter.{clockRaised, failFormer, inquireOrFail, answers, queuedUp, onRequest};
-ghost use Rattle.list_rows.specs.Did.{Did, Sent};
+ghost use Rattle.event_effects.specs.Effects.{CarriesOut, Appends};
 ghost use Rattle.arbiter_grants.specs.Needs.{Room};
 
 // The site's clock becomes the larger of itself and n.
@@ -34,7 +34,7 @@ fn clock_raised(d: Desk, n: u64) -> Desk
 // A fail to the head before k was queued, if there was one other than k and it comes before the holder.
 fn fail_former(d: Desk, out: &mut [Row], count: usize, k: u64, former: u64) -> usize
     requires { ⌜ Room d 0 1 count (now out) × (former ≤ siteLimit) ⌝ }
-    ensures { λ r. ⌜ Sent (failFormer d k former) count (now (out .entry)) (now (out .exit)) r ⌝ }
+    ensures { λ r. ⌜ Appends (failFormer d k former) count (now (out .entry)) (now (out .exit)) r ⌝ }
 {
     if former == 0 {
         return count;
@@ -62,7 +62,7 @@ fn inquire_or_fail(d: Desk, k: u64) -> Message
 // The answers to k, which has been queued; `former` was the head before, 0 none.
 fn answers(d: Desk, out: &mut [Row], count: usize, k: u64, former: u64) -> usize
     requires { ⌜ Room d 0 3 count (now out) × SiteNumber k × (former ≤ siteLimit) ⌝ }
-    ensures { λ r. ⌜ Sent (answers d k former) count (now (out .entry)) (now (out .exit)) r ⌝ }
+    ensures { λ r. ⌜ Appends (answers d k former) count (now (out .entry)) (now (out .exit)) r ⌝ }
 {
     if head(&d.queued, d.size) != k {
         return append(out, count, Message::fail(d.number, k));
@@ -76,7 +76,7 @@ fn answers(d: Desk, out: &mut [Row], count: usize, k: u64, former: u64) -> usize
 // Queues k with sequence number n, while another site holds the permission.
 fn queue_up(d: Desk, out: &mut [Row], count: usize, k: u64, n: u64) -> Acted
     requires { ⌜ Room d 0 3 count (now out) × SiteNumber k ⌝ }
-    ensures { λ r. ⌜ Did (queuedUp d k n) count (now (out .entry)) (now (out .exit)) r ⌝ }
+    ensures { λ r. ⌜ CarriesOut (queuedUp d k n) count (now (out .entry)) (now (out .exit)) r ⌝ }
 {
     let former = head(&d.queued, d.size);
     let u = requeued(d, k, n);
@@ -90,7 +90,7 @@ fn queue_up(d: Desk, out: &mut [Row], count: usize, k: u64, n: u64) -> Acted
 // An inner call: a request from k with sequence number n.
 pub fn on_request(d: Desk, out: &mut [Row], count: usize, k: u64, n: u64) -> Acted
     requires { ⌜ Room d 1 3 count (now out) × SiteNumber k ⌝ }
-    ensures { λ r. ⌜ Did (onRequest d k n) count (now (out .entry)) (now (out .exit)) r ⌝ }
+    ensures { λ r. ⌜ CarriesOut (onRequest d k n) count (now (out .entry)) (now (out .exit)) r ⌝ }
 {
     let u = clock_raised(d, n);
     if u.arbiter.holder == 0 {

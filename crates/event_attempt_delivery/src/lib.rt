@@ -7,7 +7,7 @@ use list_rows::Found;
 use list_rows::Row;
 use list_rows::first;
 use list_rows::message;
-use ranges::is_site;
+use rig_reads::is_site;
 use rig::Rig;
 use rig::Table;
 ghost use Rattle.rig.specs.declared.Event.the-variants.{Deliver};

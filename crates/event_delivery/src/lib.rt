@@ -1,5 +1,5 @@
 // What a site does with a message that is delivered to it: the rule of the message's kind.
-use list_rows::Acted;
+use event_effects::Acted;
 use list_rows::Row;
 use arbiter_releases::on_release;
 use arbiter_releases::on_yield;
@@ -11,13 +11,13 @@ use site_notices::on_inquire;
 use site_notices::on_reply;
 use site_notices::on_transfer;
 ghost use Rattle.model.specs.Deliver.{delivered};
-ghost use Rattle.list_rows.specs.Did.{Did};
+ghost use Rattle.event_effects.specs.Effects.{CarriesOut};
 ghost use Rattle.event_delivery.specs.Needs.{Fits};
 
 // An inner call: the message m comes to its receiver's desk. Messages go to `out`, behind the first `count` rows.
 pub fn deliver(d: Desk, m: Message, out: &mut [Row], count: usize) -> Acted
     requires { ⌜ Fits d m count (now out) ⌝ }
-    ensures { λ r. ⌜ Did (delivered d m) count (now (out .entry)) (now (out .exit)) r ⌝ }
+    ensures { λ r. ⌜ CarriesOut (delivered d m) count (now (out .entry)) (now (out .exit)) r ⌝ }
 {
     if m.kind == Message::REQUEST {
         return on_request(d, out, count, m.from, m.number);

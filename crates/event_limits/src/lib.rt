@@ -1,7 +1,7 @@
 // Whether an event keeps to the limits of a rig: 9, 8 or 0.
 use list_rows::Row;
 use list_rows::message;
-use ranges::is_number;
+use rig_reads::is_number;
 use rig::Rig;
 ghost use mathlib.Core.Path.{_≡_};
 ghost use mathlib.Core.List.{map};

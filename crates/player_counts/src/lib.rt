@@ -1,6 +1,6 @@
 // What a printed line says of a rig's sites: which one is inside, and how many wait.
-use modes::is_inside;
-use modes::is_waiting;
+use rig_reads::is_inside;
+use rig_reads::is_waiting;
 use rig::Rig;
 use rig::Site;
 ghost use mathlib.Core.Path.{_≡_};

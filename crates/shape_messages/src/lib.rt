@@ -1,10 +1,10 @@
 // Whether the messages under way are well shaped, as model/specs/Shape defines it.
 use list_rows::Row;
 use list_rows::message;
-use members::both_tied;
-use members::tied;
-use ranges::is_given;
-use ranges::is_site;
+use rig_reads::both_tied;
+use rig_reads::tied;
+use rig_reads::is_given;
+use rig_reads::is_site;
 use rig::Message;
 use rig::Rig;
 ghost use mathlib.Core.Path.{_≡_};

@@ -1,9 +1,9 @@
 // Whether a rig is well shaped: its sets, its sites and its arbiters, as model/specs/Shape defines it.
-use members::tied;
-use modes::is_resting;
-use ranges::is_given;
-use ranges::is_number;
-use ranges::is_site;
+use rig_reads::tied;
+use rig_reads::is_resting;
+use rig_reads::is_given;
+use rig_reads::is_number;
+use rig_reads::is_site;
 use rig::Arbiter;
 use rig::Mode;
 use rig::Rig;

@@ -1,7 +1,7 @@
 // Whether the four tables of numbers are well shaped: `held`, `heir`, `inquired` and `queued`, as model/specs/Shape defines it.
-use members::both_tied;
-use members::tied;
-use ranges::is_number;
+use rig_reads::both_tied;
+use rig_reads::tied;
+use rig_reads::is_number;
 use rig::Rig;
 use rig::Table;
 ghost use mathlib.Core.Path.{_≡_};

@@ -1,7 +1,7 @@
 // What a site does when it asks for its members' permissions, and when it leaves.
-use list_rows::Acted;
+use event_effects::Acted;
 use list_rows::Row;
-use members::is_member;
+use rig_reads::is_member;
 use rig::Desk;
 use rig::Message;
 use rig::Mode;
@@ -14,7 +14,7 @@ ghost use Rattle.rig.specs.Limits.{numberLimit};
 ghost use Rattle.model.specs.Desk.{withSite, withoutEntries};
 ghost use Rattle.model.specs.Ask.{requests, asked};
 ghost use Rattle.model.specs.Leave.{handOn, handOns, left};
-ghost use Rattle.list_rows.specs.Did.{Did, Sent};
+ghost use Rattle.event_effects.specs.Effects.{CarriesOut, Appends};
 ghost use Rattle.site_ask_leave.specs.Needs.{AskFits, LeaveFits};
 ghost use Rattle.site_ask_leave.specs.Turns.{requestIf, handOnIf};
 
@@ -33,7 +33,7 @@ fn cleared(d: Desk, site: Site) -> Desk
 // One turn of the ask: the request to site j, if it is in the set.
 fn request_member(number: u64, set: u64, seq: u64, j: u64, out: &mut [Row], count: usize) -> usize
     requires { ⌜ count < length (now out) ⌝ }
-    ensures { λ r. ⌜ Sent (requestIf number set seq j) count (now (out .entry)) (now (out .exit)) r ⌝ }
+    ensures { λ r. ⌜ Appends (requestIf number set seq j) count (now (out .entry)) (now (out .exit)) r ⌝ }
 {
     if is_member(set, j) {
         return list_rows::append(out, count, Message::request(number, j, seq));
@@ -44,7 +44,7 @@ fn request_member(number: u64, set: u64, seq: u64, j: u64, out: &mut [Row], coun
 // The requests to the members, ascending.
 fn request_members(d: Desk, seq: u64, out: &mut [Row], count: usize) -> usize
     requires { ⌜ AskFits d count (now out) ⌝ }
-    ensures { λ r. ⌜ Sent (requests d seq (d .size)) count (now (out .entry)) (now (out .exit)) r ⌝ }
+    ensures { λ r. ⌜ Appends (requests d seq (d .size)) count (now (out .entry)) (now (out .exit)) r ⌝ }
 {
     let mut n = count;
     for m in 0..d.size {
@@ -56,7 +56,7 @@ fn request_members(d: Desk, seq: u64, out: &mut [Row], count: usize) -> usize
 // An inner call: the site asks.
 pub fn ask(d: Desk, out: &mut [Row], count: usize) -> Acted
     requires { ⌜ AskFits d count (now out) ⌝ }
-    ensures { λ r. ⌜ Did (asked d) count (now (out .entry)) (now (out .exit)) r ⌝ }
+    ensures { λ r. ⌜ CarriesOut (asked d) count (now (out .entry)) (now (out .exit)) r ⌝ }
 {
     let s = d.site;
     let seq = s.clock + 1;
@@ -77,7 +77,7 @@ pub fn ask(d: Desk, out: &mut [Row], count: usize) -> Acted
 // What site `number` sends on for arbiter j, held with number g, with heir k (0 none).
 fn hand_on(number: u64, j: u64, k: u64, g: u64, out: &mut [Row], count: usize) -> usize
     requires { ⌜ (g ≤ numberLimit) × (count + 2 ≤ length (now out)) ⌝ }
-    ensures { λ r. ⌜ Sent (handOn number j k g) count (now (out .entry)) (now (out .exit)) r ⌝ }
+    ensures { λ r. ⌜ Appends (handOn number j k g) count (now (out .entry)) (now (out .exit)) r ⌝ }
 {
     if k == 0 {
         return list_rows::append(out, count, Message::release(number, j, 0, g));
@@ -97,7 +97,7 @@ fn hand_on_member(
     count: usize,
 ) -> usize
     requires { ⌜ (g ≤ numberLimit) × (count + 2 ≤ length (now out)) ⌝ }
-    ensures { λ r. ⌜ Sent (handOnIf number set j k g) count (now (out .entry)) (now (out .exit)) r ⌝ }
+    ensures { λ r. ⌜ Appends (handOnIf number set j k g) count (now (out .entry)) (now (out .exit)) r ⌝ }
 {
     if !is_member(set, j) {
         return count;
@@ -111,7 +111,7 @@ fn hand_on_member(
 // What is sent on for each member held, ascending.
 fn hand_on_members(d: Desk, out: &mut [Row], count: usize) -> usize
     requires { ⌜ LeaveFits d count (now out) ⌝ }
-    ensures { λ r. ⌜ Sent (handOns d (d .size)) count (now (out .entry)) (now (out .exit)) r ⌝ }
+    ensures { λ r. ⌜ Appends (handOns d (d .size)) count (now (out .entry)) (now (out .exit)) r ⌝ }
 {
     let mut n = count;
     for i in 0..d.size {
@@ -125,7 +125,7 @@ fn hand_on_members(d: Desk, out: &mut [Row], count: usize) -> usize
 // An inner call: the site leaves.
 pub fn leave(d: Desk, out: &mut [Row], count: usize) -> Acted
     requires { ⌜ LeaveFits d count (now out) ⌝ }
-    ensures { λ r. ⌜ Did (left d) count (now (out .entry)) (now (out .exit)) r ⌝ }
+    ensures { λ r. ⌜ CarriesOut (left d) count (now (out .entry)) (now (out .exit)) r ⌝ }
 {
     let sent = hand_on_members(d, out, count);
     let s = d.site;

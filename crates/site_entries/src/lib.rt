@@ -1,5 +1,5 @@
 // A site's part of its desk: what it says, and how it changes.
-use members::is_member;
+use rig_reads::is_member;
 use rig::Desk;
 use rig::Mode;
 use rig::Rig;
@@ -19,7 +19,7 @@ pub fn failed_set(d: Desk) -> Desk
     let s = d.site;
     let site = Site {
         mode: Mode::Waiting {
-            seq: modes::seq_in(s),
+            seq: rig_reads::seq_in(s),
             failed: true,
         },
         clock: s.clock,

@@ -1,17 +1,17 @@
 // What a site does with a reply, an inquire, a fail or a transfer.
-use list_rows::Acted;
+use event_effects::Acted;
 use list_rows::Row;
 use rig::Desk;
 ghost use Prim.Native.Nat.{_<_, _≤_, _+_};
 ghost use lib.ListN.{length};
 ghost use Rattle.model.specs.Site.{enteredOrYielded, onReply, yieldedOrRemembered, onInquire, onFail, onTransfer};
-ghost use Rattle.list_rows.specs.Did.{Did};
+ghost use Rattle.event_effects.specs.Effects.{CarriesOut};
 ghost use Rattle.rig.specs.Limits.{siteLimit, SiteNumber};
 
 // What follows once a number is held for j: the site is inside, or yields j, or waits on.
 fn enter_or_yield(d: Desk, j: u64, out: &mut [Row], count: usize) -> Acted
     requires { ⌜ SiteNumber j × (d .size ≤ siteLimit) × (count < length (now out)) ⌝ }
-    ensures { λ r. ⌜ Did (enteredOrYielded d j) count (now (out .entry)) (now (out .exit)) r ⌝ }
+    ensures { λ r. ⌜ CarriesOut (enteredOrYielded d j) count (now (out .entry)) (now (out .exit)) r ⌝ }
 {
     if site_entries::all_held(d) {
         return Acted {
@@ -20,7 +20,7 @@ fn enter_or_yield(d: Desk, j: u64, out: &mut [Row], count: usize) -> Acted
         };
     }
     let s = d.site;
-    if !modes::has_failed(s) {
+    if !rig_reads::has_failed(s) {
         return Acted {
             desk: d,
             count: count,
@@ -40,16 +40,16 @@ fn enter_or_yield(d: Desk, j: u64, out: &mut [Row], count: usize) -> Acted
 // An inner call: a reply about j, with number n.
 pub fn on_reply(d: Desk, j: u64, n: u64, out: &mut [Row], count: usize) -> Acted
     requires { ⌜ SiteNumber j × (d .size ≤ siteLimit) × (count < length (now out)) ⌝ }
-    ensures { λ r. ⌜ Did (onReply d j n) count (now (out .entry)) (now (out .exit)) r ⌝ }
+    ensures { λ r. ⌜ CarriesOut (onReply d j n) count (now (out .entry)) (now (out .exit)) r ⌝ }
 {
     let s = d.site;
-    if !modes::is_waiting(s) {
+    if !rig_reads::is_waiting(s) {
         return Acted {
             desk: d,
             count: count,
         };
     }
-    if !members::is_member(d.members, j) {
+    if !rig_reads::is_member(d.members, j) {
         return Acted {
             desk: d,
             count: count,
@@ -69,7 +69,7 @@ pub fn on_reply(d: Desk, j: u64, n: u64, out: &mut [Row], count: usize) -> Acted
 // What a waiting site does with an inquire from j, with number n.
 fn yield_or_remember(d: Desk, j: u64, n: u64, out: &mut [Row], count: usize) -> Acted
     requires { ⌜ SiteNumber j × (count < length (now out)) ⌝ }
-    ensures { λ r. ⌜ Did (yieldedOrRemembered d j n) count (now (out .entry)) (now (out .exit)) r ⌝ }
+    ensures { λ r. ⌜ CarriesOut (yieldedOrRemembered d j n) count (now (out .entry)) (now (out .exit)) r ⌝ }
 {
     let i = (j - 1) as usize;
     let g = d.held[i];
@@ -87,7 +87,7 @@ fn yield_or_remember(d: Desk, j: u64, n: u64, out: &mut [Row], count: usize) -> 
         };
     }
     let s = d.site;
-    if modes::has_failed(s) {
+    if rig_reads::has_failed(s) {
         return site_yields::yield_member(d, j, out, count);
     }
     Acted {
@@ -99,10 +99,10 @@ fn yield_or_remember(d: Desk, j: u64, n: u64, out: &mut [Row], count: usize) -> 
 // An inner call: an inquire from j, with number n.
 pub fn on_inquire(d: Desk, j: u64, n: u64, out: &mut [Row], count: usize) -> Acted
     requires { ⌜ SiteNumber j × (count < length (now out)) ⌝ }
-    ensures { λ r. ⌜ Did (onInquire d j n) count (now (out .entry)) (now (out .exit)) r ⌝ }
+    ensures { λ r. ⌜ CarriesOut (onInquire d j n) count (now (out .entry)) (now (out .exit)) r ⌝ }
 {
     let s = d.site;
-    if !modes::is_waiting(s) {
+    if !rig_reads::is_waiting(s) {
         return Acted {
             desk: d,
             count: count,
@@ -114,10 +114,10 @@ pub fn on_inquire(d: Desk, j: u64, n: u64, out: &mut [Row], count: usize) -> Act
 // An inner call: a fail.
 pub fn on_fail(d: Desk, out: &mut [Row], count: usize) -> Acted
     requires { ⌜ (d .size ≤ siteLimit) × (count + siteLimit ≤ length (now out)) ⌝ }
-    ensures { λ r. ⌜ Did (onFail d) count (now (out .entry)) (now (out .exit)) r ⌝ }
+    ensures { λ r. ⌜ CarriesOut (onFail d) count (now (out .entry)) (now (out .exit)) r ⌝ }
 {
     let s = d.site;
-    if !modes::is_waiting(s) {
+    if !rig_reads::is_waiting(s) {
         return Acted {
             desk: d,
             count: count,
@@ -129,7 +129,7 @@ pub fn on_fail(d: Desk, out: &mut [Row], count: usize) -> Acted
 // An inner call: a transfer from j that names x, with number n.
 pub fn on_transfer(d: Desk, j: u64, x: u64, n: u64, out: &mut [Row], count: usize) -> Acted
     requires { ⌜ SiteNumber j ⌝ }
-    ensures { λ r. ⌜ Did (onTransfer d j x n) count (now (out .entry)) (now (out .exit)) r ⌝ }
+    ensures { λ r. ⌜ CarriesOut (onTransfer d j x n) count (now (out .entry)) (now (out .exit)) r ⌝ }
 {
     let i = (j - 1) as usize;
     let g = d.held[i];

@@ -5,19 +5,19 @@ use mathlib.Core.List.{List, [], append-assoc, map-append}
 use native.Mathlib.Omega.{arith}
 use lib.ListN.{length, length-append}
 use Rattle.rig.specs.declared.Desk.{Desk}
-use Rattle.list_rows.specs.declared.Acted.{Acted}
-use Rattle.list_rows.specs.Did.{Did}
-use Rattle.list_rows.proofs.Sending.{sent-none, did-sent, still-behind}
+use Rattle.event_effects.specs.declared.Acted.{Acted}
+use Rattle.event_effects.specs.Effects.{CarriesOut}
+use Rattle.event_effects.proofs.Effects.{sent-none, carries-sent, still-behind}
 use Rattle.basics.proofs.Basics.{by-bool}
 use Rattle.model.specs.Desk.{Effect, effect}
 use Rattle.model.specs.Site.{yielded, mustYield, yieldedIf, yieldedUpTo, andThen}
 
 -- the desk changes and nothing is sent
-pub did-only : {d e : Desk} (n : ℕ) (rows : List (List ℕ)) → d ≡ e → Did (effect e []) n rows rows (record { desk = d; count = n })
-did-only n rows h = rw h (did-sent sent-none)
+pub did-only : {d e : Desk} (n : ℕ) (rows : List (List ℕ)) → d ≡ e → CarriesOut (effect e []) n rows rows (record { desk = d; count = n })
+did-only n rows h = rw h (carries-sent sent-none)
 
 -- one effect, and then another on the desk that it left
-pub did-then : {e : Effect} (f : Desk → Effect) {n : ℕ} {rows mid after : List (List ℕ)} {a b : Acted} → Did e n rows mid a → Did (f (a .desk)) (a .count) mid after b → Did (andThen e (f (e .desk))) n rows after b
+pub did-then : {e : Effect} (f : Desk → Effect) {n : ℕ} {rows mid after : List (List ℕ)} {a b : Acted} → CarriesOut e n rows mid a → CarriesOut (f (a .desk)) (a .count) mid after b → CarriesOut (andThen e (f (e .desk))) n rows after b
 did-then {e} f {n} {rows} {mid} {after} {a} {b} s t =
     let u = rw (s .desk) at t in record {
       desk = u .desk;

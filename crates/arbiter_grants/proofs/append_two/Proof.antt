@@ -1,7 +1,7 @@
 -- `append_two`: one `append`, then another.
 use mathlib.Core.Path.{refl}
 use borrow.Author.Needs.{needs}
-use Rattle.list_rows.proofs.Sending.{sent-one, sent-more}
+use Rattle.event_effects.proofs.Effects.{sent-one, sent-more}
 use Rattle.arbiter_grants.proofs.append_two.Statement.{statement}
 use Rattle.arbiter_grants.proofs.append_two.Tie as tie
 

@@ -2,7 +2,7 @@
 use native.Mathlib.Omega.{arith}
 use borrow.Author.Needs.{needs}
 use Rattle.model.specs.Arbiter.{granted}
-use Rattle.list_rows.proofs.Sending.{sent-one, sent-more, did-sent}
+use Rattle.event_effects.proofs.Effects.{sent-one, sent-more, carries-sent}
 use Rattle.arbiter_grants.proofs.grant.Statement.{statement}
 use Rattle.arbiter_grants.proofs.grant.Tie as tie
 
@@ -34,7 +34,7 @@ unfolding granted
 returns c =
     let u = rw (c .before .before .before .before .before .before .before .before .before .requeued .ensures) at (c .before .before .before .before .before .before .before .held-by .ensures) in
     let replied = sent-one (rw u at (c .before .before .before .before .before .reply .ensures)) (c .before .before .before .before .append .ensures) in
-    rw u (did-sent (sent-more replied (rw u at (c .before .next-heir .ensures))))
+    rw u (carries-sent (sent-more replied (rw u at (c .before .next-heir .ensures))))
 
 pub grant-spec : {M : Type 1} → statement M
 grant-spec =

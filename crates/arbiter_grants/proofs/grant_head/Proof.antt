@@ -4,7 +4,7 @@ use borrow.Author.Tests.{eq-eqb, ne-eqb}
 use borrow.Author.Needs.{needs}
 use Rattle.model.specs.Arbiter.{headOf, grantedHead}
 use Rattle.arbiter_queue.proofs.Heads.{head-listed}
-use Rattle.list_rows.proofs.Sending.{sent-none, did-sent}
+use Rattle.event_effects.proofs.Effects.{sent-none, carries-sent}
 use Rattle.arbiter_grants.proofs.grant_head.Statement.{statement}
 use Rattle.arbiter_grants.proofs.grant_head.Tie as tie
 
@@ -13,7 +13,7 @@ head-requires c κs = search needs
 
 returns : tie.Need-returns
 unfolding grantedHead headOf
-returns c = rw (eq-eqb _ 0 (sym (c .before .head .ensures) ∙ c .if1 .taken)) (did-sent sent-none)
+returns c = rw (eq-eqb _ 0 (sym (c .before .head .ensures) ∙ c .if1 .taken)) (carries-sent sent-none)
 
 queued-at-requires : tie.Need-queued-at-requires
 queued-at-requires c κs = head-listed _ _ _ (c .before .before .before .before .before .before .pre .size) (c .before .before .before .head .ensures) (c .before .before .if1 .left)

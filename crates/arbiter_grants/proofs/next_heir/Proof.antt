@@ -3,7 +3,7 @@ use mathlib.Core.Path.{sym, _∙_}
 use borrow.Author.Tests.{eq-eqb, ne-eqb}
 use borrow.Author.Needs.{needs}
 use Rattle.model.specs.Arbiter.{headOf, nextHeir}
-use Rattle.list_rows.proofs.Sending.{sent-none, sent-one}
+use Rattle.event_effects.proofs.Effects.{sent-none, sent-one}
 use Rattle.arbiter_grants.proofs.next_heir.Statement.{statement}
 use Rattle.arbiter_grants.proofs.next_heir.Tie as tie
 

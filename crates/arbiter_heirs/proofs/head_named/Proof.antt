@@ -4,7 +4,7 @@ use borrow.Author.Tests.{eq-eqb, ne-eqb, not-true, not-false}
 use borrow.Author.Needs.{needs}
 use Rattle.model.specs.Arbiter.{headOf, inquireIfBefore, headNamed}
 use Rattle.arbiter_queue.proofs.Heads.{head-listed}
-use Rattle.list_rows.proofs.Sending.{sent-none, sent-one, sent-more}
+use Rattle.event_effects.proofs.Effects.{sent-none, sent-one, sent-more}
 use Rattle.arbiter_heirs.proofs.head_named.Statement.{statement}
 use Rattle.arbiter_heirs.proofs.head_named.Tie as tie
 

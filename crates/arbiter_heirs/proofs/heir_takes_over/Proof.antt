@@ -2,7 +2,7 @@
 use native.Mathlib.Omega.{arith}
 use borrow.Author.Needs.{needs}
 use Rattle.model.specs.Arbiter.{heirTakesOver}
-use Rattle.list_rows.proofs.Sending.{did-sent}
+use Rattle.event_effects.proofs.Effects.{carries-sent}
 use Rattle.arbiter_heirs.proofs.heir_takes_over.Statement.{statement}
 use Rattle.arbiter_heirs.proofs.heir_takes_over.Tie as tie
 
@@ -30,7 +30,7 @@ returns : tie.Need-returns
 unfolding heirTakesOver
 returns c =
     let u = rw (c .before .before .before .before .requeued .ensures, c .before .before .before .before .before .queued-at .ensures) at (c .before .before .before .held-by .ensures) in
-    rw u (did-sent (rw u at (c .before .head-named .ensures)))
+    rw u (carries-sent (rw u at (c .before .head-named .ensures)))
 
 pub heir-takes-over-spec : {M : Type 1} → statement M
 heir-takes-over-spec =

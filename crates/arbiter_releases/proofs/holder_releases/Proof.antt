@@ -4,7 +4,7 @@ use native.Mathlib.Omega.{arith}
 use borrow.Author.Tests.{eq-eqb, ne-eqb}
 use borrow.Author.Needs.{needs}
 use Rattle.model.specs.Arbiter.{holderReleases}
-use Rattle.list_rows.proofs.Sending.{sent-none, did-sent}
+use Rattle.event_effects.proofs.Effects.{sent-none, carries-sent}
 use Rattle.arbiter_releases.proofs.holder_releases.Statement.{statement}
 use Rattle.arbiter_releases.proofs.holder_releases.Tie as tie
 
@@ -28,7 +28,7 @@ queued-at-requires c κs = search needs
 
 returns-2 : tie.Need-returns-2
 unfolding holderReleases
-returns-2 c = rw (ne-eqb _ 0 (c .before .before .before .before .if1 .left), eq-eqb _ 0 (sym (c .before .queued-at .ensures) ∙ c .if2 .taken)) (did-sent sent-none)
+returns-2 c = rw (ne-eqb _ 0 (c .before .before .before .before .if1 .left), eq-eqb _ 0 (sym (c .before .queued-at .ensures) ∙ c .if2 .taken)) (carries-sent sent-none)
 
 heir-takes-over-requires : tie.Need-heir-takes-over-requires
 heir-takes-over-requires c κs = search needs

@@ -2,7 +2,7 @@
 use mathlib.Core.Path.{sym, _∙_}
 use borrow.Author.Needs.{needs}
 use Rattle.model.specs.Arbiter.{onRelease}
-use Rattle.list_rows.proofs.Sending.{sent-none, did-sent}
+use Rattle.event_effects.proofs.Effects.{sent-none, carries-sent}
 use Rattle.arbiter_releases.proofs.on_release.Statement.{statement}
 use Rattle.arbiter_releases.proofs.on_release.Tie as tie
 
@@ -34,7 +34,7 @@ returns-2 c = rw (sym (c .before .before .before .before .before .before .from-h
 
 returns-3 : tie.Need-returns-3
 unfolding onRelease
-returns-3 c = rw (sym (c .before .before .before .from-holder .ensures) ∙ c .before .before .if1 .left, sym (c .before .is-early .ensures) ∙ c .if2 .left) (did-sent sent-none)
+returns-3 c = rw (sym (c .before .before .before .from-holder .ensures) ∙ c .before .before .if1 .left, sym (c .before .is-early .ensures) ∙ c .if2 .left) (carries-sent sent-none)
 
 pub on-release-spec : {M : Type 1} → statement M
 on-release-spec =

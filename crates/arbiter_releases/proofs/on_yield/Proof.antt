@@ -4,7 +4,7 @@ use native.Mathlib.Omega.{arith}
 use borrow.Author.Tests.{not-true, not-false}
 use borrow.Author.Needs.{needs}
 use Rattle.model.specs.Arbiter.{onYield}
-use Rattle.list_rows.proofs.Sending.{sent-none, did-sent}
+use Rattle.event_effects.proofs.Effects.{sent-none, carries-sent}
 use Rattle.arbiter_releases.proofs.on_yield.Statement.{statement}
 use Rattle.arbiter_releases.proofs.on_yield.Tie as tie
 
@@ -13,7 +13,7 @@ from-holder-requires c κs = search needs
 
 returns : tie.Need-returns
 unfolding onYield
-returns c = rw (sym (c .before .from-holder .ensures) ∙ not-true _ (c .if1 .taken)) (did-sent sent-none)
+returns c = rw (sym (c .before .from-holder .ensures) ∙ not-true _ (c .if1 .taken)) (carries-sent sent-none)
 
 requeued-requires : tie.Need-requeued-requires
 requeued-requires c κs = search needs

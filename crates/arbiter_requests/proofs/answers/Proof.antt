@@ -4,7 +4,7 @@ use native.Mathlib.Omega.{arith}
 use borrow.Author.Tests.{eq-eqb, ne-eqb}
 use borrow.Author.Needs.{needs}
 use Rattle.model.specs.Arbiter.{headOf, answers}
-use Rattle.list_rows.proofs.Sending.{sent-one, sent-more}
+use Rattle.event_effects.proofs.Effects.{sent-one, sent-more}
 use Rattle.arbiter_requests.proofs.Former.{fail-former-most}
 use Rattle.arbiter_requests.proofs.answers.Statement.{statement}
 use Rattle.arbiter_requests.proofs.answers.Tie as tie

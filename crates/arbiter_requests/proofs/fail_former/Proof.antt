@@ -3,7 +3,7 @@ use mathlib.Core.Path.{sym, _∙_}
 use borrow.Author.Tests.{eq-eqb, ne-eqb, not-true, not-false}
 use borrow.Author.Needs.{needs}
 use Rattle.model.specs.Arbiter.{failFormer}
-use Rattle.list_rows.proofs.Sending.{sent-none, sent-one}
+use Rattle.event_effects.proofs.Effects.{sent-none, sent-one}
 use Rattle.arbiter_requests.proofs.fail_former.Statement.{statement}
 use Rattle.arbiter_requests.proofs.fail_former.Tie as tie
 

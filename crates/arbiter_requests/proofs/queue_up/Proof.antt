@@ -3,7 +3,7 @@ use native.Mathlib.Omega.{arith}
 use borrow.Author.Needs.{needs}
 use Rattle.model.specs.Arbiter.{headOf, queuedUp}
 use Rattle.model.proofs.Heads.{head-within}
-use Rattle.list_rows.proofs.Sending.{did-sent}
+use Rattle.event_effects.proofs.Effects.{carries-sent}
 use Rattle.arbiter_requests.proofs.queue_up.Statement.{statement}
 use Rattle.arbiter_requests.proofs.queue_up.Tie as tie
 
@@ -26,7 +26,7 @@ returns : tie.Need-returns
 unfolding queuedUp headOf
 returns c =
     let u = c .before .before .before .requeued .ensures in
-    rw u (did-sent (rw (u, c .before .before .before .before .head .ensures) at (c .before .answers .ensures)))
+    rw u (carries-sent (rw (u, c .before .before .before .before .head .ensures) at (c .before .answers .ensures)))
 
 pub queue-up-spec : {M : Type 1} → statement M
 queue-up-spec =

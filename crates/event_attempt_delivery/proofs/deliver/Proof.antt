@@ -24,7 +24,7 @@ use Rattle.event_attempt_delivery.proofs.deliver.Tie as tie
 use Rattle.event_storing.proofs.conclude.Reads as conclude-reads
 use Rattle.event_delivery.proofs.deliver.Reads as deliver-reads
 use Rattle.event_desks.proofs.desk.Reads as desk-reads
-use Rattle.ranges.proofs.is_site.Reads as is-site-reads
+use Rattle.rig_reads.proofs.is_site.Reads as is-site-reads
 use Rattle.list_rows.proofs.first.Reads as first-reads
 use Rattle.list_rows.proofs.message.Reads as message-reads
 

@@ -1,6 +1,6 @@
 -- `deliver`: the rule of each kind, and nothing for a message of no kind.
 use borrow.Author.Needs.{needs}
-use Rattle.list_rows.proofs.Sending.{sent-none, did-sent}
+use Rattle.event_effects.proofs.Effects.{sent-none, carries-sent}
 use Rattle.event_delivery.proofs.ByKind.{of-request, of-reply, of-release, of-inquire, of-fail, of-yield, of-transfer, of-no-kind}
 use Rattle.event_delivery.proofs.deliver.Statement.{statement}
 use Rattle.event_delivery.proofs.deliver.Tie as tie
@@ -69,7 +69,7 @@ returns-7 : tie.Need-returns-7
 returns-7 c = rw (of-transfer (c .before .before .before .before .before .before .before .before .before .before .before .before .before .before .before .before .before .args .d) (c .before .before .before .before .before .before .before .before .before .before .before .before .before .before .before .before .before .args .m) (c .before .before .before .if7 .taken)) (c .before .on-transfer .ensures)
 
 returns-8 : tie.Need-returns-8
-returns-8 c = rw (of-no-kind (c .before .before .before .before .before .before .before .before .before .before .before .before .before .before .args .d) (c .before .before .before .before .before .before .before .before .before .before .before .before .before .before .args .m) (c .before .before .before .before .before .before .before .before .before .before .before .before .if1 .left) (c .before .before .before .before .before .before .before .before .before .before .if2 .left) (c .before .before .before .before .before .before .before .before .if3 .left) (c .before .before .before .before .before .before .if4 .left) (c .before .before .before .before .if5 .left) (c .before .before .if6 .left) (c .if7 .left)) (did-sent sent-none)
+returns-8 c = rw (of-no-kind (c .before .before .before .before .before .before .before .before .before .before .before .before .before .before .args .d) (c .before .before .before .before .before .before .before .before .before .before .before .before .before .before .args .m) (c .before .before .before .before .before .before .before .before .before .before .before .before .if1 .left) (c .before .before .before .before .before .before .before .before .before .before .if2 .left) (c .before .before .before .before .before .before .before .before .if3 .left) (c .before .before .before .before .before .before .if4 .left) (c .before .before .before .before .if5 .left) (c .before .before .if6 .left) (c .if7 .left)) (carries-sent sent-none)
 
 pub deliver-spec : {M : Type 1} → statement M
 deliver-spec =

@@ -4,7 +4,7 @@ use native.Mathlib.Numerals.{add-one}
 use denote.Ref.{now}
 use lib.Seq.{take-suc-set}
 use borrow.Author.Needs.{needs}
-use Rattle.list_rows.proofs.Sending.{behind-stored}
+use Rattle.list_rows.proofs.Rows.{behind-stored}
 use Rattle.list_rows.proofs.append.Statement.{statement}
 use Rattle.list_rows.proofs.append.Tie as tie
 

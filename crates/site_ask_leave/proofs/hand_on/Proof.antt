@@ -3,7 +3,7 @@ use mathlib.Core.Path.{refl}
 use borrow.Author.Tests.{ne-eqb}
 use borrow.Author.Needs.{needs}
 use Rattle.model.specs.Leave.{handOn}
-use Rattle.list_rows.proofs.Sending.{sent-one, sent-more}
+use Rattle.event_effects.proofs.Effects.{sent-one, sent-more}
 use Rattle.site_ask_leave.proofs.hand_on.Statement.{statement}
 use Rattle.site_ask_leave.proofs.hand_on.Tie as tie
 

@@ -2,7 +2,7 @@
 use mathlib.Core.Path.{sym, _∙_}
 use borrow.Author.Tests.{ne-eqb, not-true, not-false}
 use borrow.Author.Needs.{needs}
-use Rattle.list_rows.proofs.Sending.{sent-none}
+use Rattle.event_effects.proofs.Effects.{sent-none}
 use Rattle.site_ask_leave.proofs.hand_on_member.Statement.{statement}
 use Rattle.site_ask_leave.proofs.hand_on_member.Tie as tie
 

@@ -8,15 +8,15 @@ use lib.ListN.{length}
 use borrow.Author.Needs.{needs}
 use Rattle.model.specs.Tables.{at}
 use Rattle.model.specs.Leave.{handOns}
-use Rattle.list_rows.specs.Did.{Sent}
+use Rattle.event_effects.specs.Effects.{Appends}
 use Rattle.site_ask_leave.proofs.Sends.{handOns-short}
-use Rattle.list_rows.proofs.Sending.{sent-none, sent-more}
+use Rattle.event_effects.proofs.Effects.{sent-none, sent-more}
 use Rattle.site_ask_leave.proofs.hand_on_members.Statement.{statement}
 use Rattle.site_ask_leave.proofs.hand_on_members.Tie as tie
 
 abbrev Inv-loop : tie.InvT-loop
 Inv-loop out₀ count d n₀ i₀ i-end out n i =
-    Sent (handOns d i) count out₀ out n × (i ≤ d .size) × (i-end ≡ d .size) × (length out ≡ length out₀)
+    Appends (handOns d i) count out₀ out n × (i ≤ d .size) × (i-end ≡ d .size) × (length out ≡ length out₀)
 
 abbrev μ-loop : tie.MeasureT-loop
 μ-loop out₀ count d n₀ i₀ i-end out n i = d .size - i

@@ -1,7 +1,7 @@
 -- `request_member`: a request if the site is in the set, else nothing.
 use mathlib.Core.Path.{refl, sym, _∙_}
 use borrow.Author.Needs.{needs}
-use Rattle.list_rows.proofs.Sending.{sent-none, sent-one}
+use Rattle.event_effects.proofs.Effects.{sent-none, sent-one}
 use Rattle.site_ask_leave.proofs.request_member.Statement.{statement}
 use Rattle.site_ask_leave.proofs.request_member.Tie as tie
 

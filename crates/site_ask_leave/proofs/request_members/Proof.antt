@@ -7,15 +7,15 @@ use native.Mathlib.Nat.{le-antisymm}
 use lib.ListN.{length}
 use borrow.Author.Needs.{needs}
 use Rattle.model.specs.Ask.{requests}
-use Rattle.list_rows.specs.Did.{Sent}
+use Rattle.event_effects.specs.Effects.{Appends}
 use Rattle.site_ask_leave.proofs.Sends.{requests-short}
-use Rattle.list_rows.proofs.Sending.{sent-none, sent-more}
+use Rattle.event_effects.proofs.Effects.{sent-none, sent-more}
 use Rattle.site_ask_leave.proofs.request_members.Statement.{statement}
 use Rattle.site_ask_leave.proofs.request_members.Tie as tie
 
 abbrev Inv-loop : tie.InvT-loop
 Inv-loop d seq out₀ count n₀ m₀ m-end out n m =
-    Sent (requests d seq m) count out₀ out n × (m ≤ d .size) × (m-end ≡ d .size) × (length out ≡ length out₀)
+    Appends (requests d seq m) count out₀ out n × (m ≤ d .size) × (m-end ≡ d .size) × (length out ≡ length out₀)
 
 abbrev μ-loop : tie.MeasureT-loop
 μ-loop d seq out₀ count n₀ m₀ m-end out n m = d .size - m

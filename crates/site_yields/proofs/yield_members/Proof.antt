@@ -7,14 +7,14 @@ use native.Mathlib.Numerals.{add-one}
 use lib.ListN.{length}
 use borrow.Author.Needs.{needs}
 use Rattle.model.specs.Site.{yieldedIf, yieldedUpTo}
-use Rattle.list_rows.specs.Did.{Did}
+use Rattle.event_effects.specs.Effects.{CarriesOut}
 use Rattle.site_yields.proofs.Does.{did-only, did-then, up-to-short}
 use Rattle.site_yields.proofs.yield_members.Statement.{statement}
 use Rattle.site_yields.proofs.yield_members.Tie as tie
 
 abbrev Inv-loop : tie.InvT-loop
 Inv-loop out₀ count a₀ i₀ i-end out a i =
-    Did (yieldedUpTo (a₀ .desk) i) count out₀ out a × (i ≤ a₀ .desk .size) × (i-end ≡ a₀ .desk .size) × (length out ≡ length out₀)
+    CarriesOut (yieldedUpTo (a₀ .desk) i) count out₀ out a × (i ≤ a₀ .desk .size) × (i-end ≡ a₀ .desk .size) × (length out ≡ length out₀)
 
 abbrev μ-loop : tie.MeasureT-loop
 μ-loop out₀ count a₀ i₀ i-end out a i = a₀ .desk .size - i

@@ -1,2 +1,0 @@
--- A site of a rig of N.
-pub mod Ranges

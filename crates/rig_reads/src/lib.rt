@@ -1,0 +1,132 @@
+// What the numbers of a rig say: a set's members, a number's range, a site's mode.
+use rig::Mode;
+use rig::Rig;
+use rig::Site;
+ghost use mathlib.Core.Path.{_≡_};
+ghost use mathlib.Core.Bool.{_&&_};
+ghost use Rattle.model.specs.Sets.{member};
+ghost use Rattle.model.specs.Tables.{at};
+ghost use Rattle.model.specs.State.{inRange, hasMember, isResting, isWaiting, isInside, seqIn, failedIn};
+ghost use Rattle.model.specs.Shape.{isNumber, isGiven};
+
+// Site j is a member of the set.
+pub fn is_member(set: u64, j: u64) -> bool
+    ensures { λ r. ⌜ r ≡ member set j ⌝ }
+{
+    if j == 0 {
+        return false;
+    }
+    if j > 64 {
+        return false;
+    }
+    (set >> (j - 1)) % 2 == 1
+}
+
+// The set of site k, empty outside the table.
+fn set_of(sets: &[u64], k: u64) -> u64
+    ensures { λ r. ⌜ r ≡ at 0 (now (sets .entry)) k ⌝ }
+{
+    if k == 0 {
+        return 0;
+    }
+    if k > sets.len() as u64 {
+        return 0;
+    }
+    sets[(k - 1) as usize]
+}
+
+// Site k is tied to arbiter j: j is in k's set.
+pub fn tied(sets: &[u64; Rig::SITES], k: u64, j: u64) -> bool
+    ensures { λ r. ⌜ r ≡ hasMember (now (sets .entry)) k j ⌝ }
+{
+    is_member(set_of(sets, k), j)
+}
+
+// Two sites are tied to arbiter j.
+pub fn both_tied(sets: &[u64; Rig::SITES], k: u64, heir: u64, j: u64) -> bool
+    ensures { λ r. ⌜ r ≡ hasMember (now (sets .entry)) k j && hasMember (now (sets .entry)) heir j ⌝ }
+{
+    if !tied(sets, k, j) {
+        return false;
+    }
+    tied(sets, heir, j)
+}
+// One of the sites 1 to N.
+pub fn is_site(size: u64, k: u64) -> bool
+    ensures { λ r. ⌜ r ≡ inRange size k ⌝ }
+{
+    1 <= k && k <= size
+}
+
+// "Clocks, sequence and grant numbers: 0 to 2,000,000."
+pub fn is_number(n: u64) -> bool
+    ensures { λ r. ⌜ r ≡ isNumber n ⌝ }
+{
+    n <= Rig::NUMBERS
+}
+
+// Such a number where there is one: at least 1.
+pub fn is_given(n: u64) -> bool
+    ensures { λ r. ⌜ r ≡ isGiven n ⌝ }
+{
+    1 <= n && n <= Rig::NUMBERS
+}
+// Whether the site is at rest.
+pub fn is_resting(s: Site) -> bool
+    ensures { λ r. ⌜ r ≡ isResting (s .mode) ⌝ }
+{
+    let m = s.mode;
+    match m {
+        Mode::Rest => true,
+        Mode::Waiting { seq: _, failed: _ } => false,
+        Mode::Inside => false,
+    }
+}
+
+// Whether the site waits.
+pub fn is_waiting(s: Site) -> bool
+    ensures { λ r. ⌜ r ≡ isWaiting (s .mode) ⌝ }
+{
+    let m = s.mode;
+    match m {
+        Mode::Rest => false,
+        Mode::Waiting { seq: _, failed: _ } => true,
+        Mode::Inside => false,
+    }
+}
+
+// Whether the site is inside.
+pub fn is_inside(s: Site) -> bool
+    ensures { λ r. ⌜ r ≡ isInside (s .mode) ⌝ }
+{
+    let m = s.mode;
+    match m {
+        Mode::Rest => false,
+        Mode::Waiting { seq: _, failed: _ } => false,
+        Mode::Inside => true,
+    }
+}
+
+// The sequence number of its ask; 0 where it does not wait.
+pub fn seq_in(s: Site) -> u64
+    ensures { λ r. ⌜ r ≡ seqIn (s .mode) ⌝ }
+{
+    let m = s.mode;
+    match m {
+        Mode::Rest => 0,
+        Mode::Waiting { seq, failed: _ } => seq,
+        Mode::Inside => 0,
+    }
+}
+
+// Its failed mark; false where it does not wait.
+pub fn has_failed(s: Site) -> bool
+    ensures { λ r. ⌜ r ≡ failedIn (s .mode) ⌝ }
+{
+    let m = s.mode;
+    match m {
+        Mode::Rest => false,
+        Mode::Waiting { seq: _, failed } => failed,
+        Mode::Inside => false,
+    }
+}
