@@ -1,2 +1,2 @@
--- The code's index of site s is s - 1.
+-- Laws that belong to no one function.
 pub mod Rows

@@ -1,58 +1,53 @@
-// One site's desk, taken out of a rig's tables and put back. Site s stands at index s - 1 of each.
+// One site's desk, put together from its parts, and its rows stored. Site s has row s - 1 of each table.
+use rig::Arbiter;
 use rig::Desk;
 use rig::Rig;
+use rig::Site;
 use rig::Table;
+use rig::Tables;
 ghost use mathlib.Core.Path.{_≡_};
-ghost use Rattle.model.specs.State.{tables, deskOf, withDesk};
-ghost use Rattle.rig.specs.Limits.{SiteNumber};
+ghost use lib.ListN.{length};
+ghost use Rattle.rig.specs.Limits.{SiteNumber, tableCount};
+ghost use Rattle.event_desks.specs.Parts.{deskAt, RowsStored};
 
 // An inner call: all that site s has.
-pub fn desk(rig: Rig, held: &Table, heir: &Table, inquired: &Table, queued: &Table, s: u64) -> Desk
+pub fn desk(size: u64, s: u64, set: u64, site: Site, arbiter: Arbiter, tables: &Tables) -> Desk
     requires { ⌜ SiteNumber s ⌝ }
-    ensures { λ r. ⌜ r ≡ deskOf (tables rig (now (held .entry)) (now (heir .entry)) (now (inquired .entry)) (now (queued .entry))) s ⌝ }
+    ensures { λ r. ⌜ r ≡ deskAt size s set site arbiter (now (tables .entry)) ⌝ }
 {
     let i = (s - 1) as usize;
     Desk {
-        size: rig.size,
+        size: size,
         number: s,
-        members: rig.sets[i],
-        site: rig.sites[i],
-        arbiter: rig.arbiters[i],
-        held: held[i],
-        heir: heir[i],
-        inquired: inquired[i],
-        queued: queued[i],
+        members: set,
+        site: site,
+        arbiter: arbiter,
+        held: tables[Rig::HELD][i],
+        heir: tables[Rig::HEIR][i],
+        inquired: tables[Rig::INQUIRED][i],
+        queued: tables[Rig::QUEUED][i],
     }
 }
 
-// An inner call: the tables once site s has the desk d, and the rig with that many accepted events.
-pub fn put_back(
-    rig: Rig,
-    held: &mut Table,
-    heir: &mut Table,
-    inquired: &mut Table,
-    queued: &mut Table,
-    s: u64,
-    d: Desk,
-    accepted: u64,
-) -> Rig
-    requires { ⌜ SiteNumber s ⌝ }
-    ensures { λ r. ⌜ tables r (now (held .exit)) (now (heir .exit)) (now (inquired .exit)) (now (queued .exit)) ≡ withDesk (tables rig (now (held .entry)) (now (heir .entry)) (now (inquired .entry)) (now (queued .entry))) s d accepted ⌝ }
+fn store_in(tables: &mut [Table], s: u64, d: Desk)
+    requires { ⌜ SiteNumber s × (length (now tables) ≡ tableCount) ⌝ }
+    ensures { λ _. ⌜ RowsStored s d tables ⌝ }
 {
     let i = (s - 1) as usize;
-    let held_row = d.held;
-    held[i] = held_row;
-    let heir_row = d.heir;
-    heir[i] = heir_row;
-    let inquired_row = d.inquired;
-    inquired[i] = inquired_row;
-    let queued_row = d.queued;
-    queued[i] = queued_row;
-    let mut g = rig;
-    let site = d.site;
-    g.sites[i] = site;
-    let arbiter = d.arbiter;
-    g.arbiters[i] = arbiter;
-    g.accepted = accepted;
-    g
+    let held = d.held;
+    tables[Rig::HELD][i] = held;
+    let heir = d.heir;
+    tables[Rig::HEIR][i] = heir;
+    let inquired = d.inquired;
+    tables[Rig::INQUIRED][i] = inquired;
+    let queued = d.queued;
+    tables[Rig::QUEUED][i] = queued;
+}
+
+// An inner call: the rows of site s become those of the desk d.
+pub fn store_rows(tables: &mut Tables, s: u64, d: Desk)
+    requires { ⌜ SiteNumber s ⌝ }
+    ensures { λ _. ⌜ RowsStored s d tables ⌝ }
+{
+    store_in(tables, s, d)
 }

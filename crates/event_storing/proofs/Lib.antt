@@ -1,3 +1,2 @@
 -- Laws that belong to no one function.
-pub mod Blank
-pub mod Judged
+pub mod Leaving

@@ -13,15 +13,15 @@ pub without-short : (n place : ℕ) (rows : List (List ℕ)) → place < n → n
 without-short n place rows g h = simp (length-append, length-take, length-drop) (omega arith)
 
 -- none stands at a place behind the last
-pub without-none : (n : ℕ) (rows : List (List ℕ)) → n ≤ length rows → without n (take n rows) ≡ take n rows
-without-none n rows h =
-    let l = length-take-le n rows h in
+pub without-none : (n : ℕ) (rows : List (List ℕ)) → without n (take n rows) ≡ take n rows
+without-none n rows =
+    let l = length-take n rows in
     ap (λ (r : List (List ℕ)). take n (take n rows) ++ r) (drop-of-length-le (take n rows) {i = suc n} (omega arith))
     ∙ append-nil (take n (take n rows))
     ∙ take-all n (take n rows) (omega arith)
 
 pub without-all : (n place : ℕ) (rows : List (List ℕ)) → place ≡ n → n ≤ length rows → length (without place (take n rows)) ≡ n
-without-all n place rows e h = rw (e, without-none n rows h) (length-take-le n rows h)
+without-all n place rows e h = rw (e, without-none n rows) (length-take-le n rows h)
 
 -- after one of the first n is taken off, the first n - 1 rows are the others
 pub taken-out-rest : (n place : ℕ) (rows : List (List ℕ)) → place < n → n ≤ length rows → take (n - 1) (takenOut n place rows) ≡ without place (take n rows)
@@ -86,6 +86,6 @@ module _ (n place m : ℕ) (rows sent : List (List ℕ)) (fits : m ≤ length se
       let k = without-all n place rows e high in
       record {
         count = omega (arith, u .0);
-        list = u .2 ∙ rw (e, without-none n rows high);
+        list = u .2 ∙ rw (e, without-none n rows);
         zeros = λ b. rw (u .0, u .1) (pasted-blank n rows sent m (omega arith) fits b);
       }

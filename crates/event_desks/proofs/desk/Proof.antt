@@ -1,3 +1,5 @@
+-- `desk`: each part at its place.
+use denote.Ref.{now}
 use borrow.Author.Needs.{needs}
 use Rattle.event_desks.proofs.Rows.{desk-read}
 use Rattle.event_desks.proofs.desk.Statement.{statement}
@@ -6,68 +8,62 @@ use Rattle.event_desks.proofs.desk.Tie as tie
 sub-i : tie.Need-sub-i
 sub-i c = search needs
 
-mul-t10 : tie.Need-mul-t10
-mul-t10 c = search needs
+mul-t11 : tie.Need-mul-t11
+mul-t11 c = search needs
 
-element-copy-out-t13 : tie.Need-element-copy-out-t13
-element-copy-out-t13 c = search needs
+index-1-t14 : tie.Need-index-1-t14
+index-1-t14 c = search needs
 
-mul-t14 : tie.Need-mul-t14
-mul-t14 c = search needs
+index-2-t14 : tie.Need-index-2-t14
+index-2-t14 c = search needs
 
-element-copy-out-t17 : tie.Need-element-copy-out-t17
-element-copy-out-t17 c = search needs
+mul-t17 : tie.Need-mul-t17
+mul-t17 c = search needs
 
-mul-t18 : tie.Need-mul-t18
-mul-t18 c = search needs
+index-1-t20 : tie.Need-index-1-t20
+index-1-t20 c = search needs
 
-element-copy-out-t21 : tie.Need-element-copy-out-t21
-element-copy-out-t21 c = search needs
+index-2-t20 : tie.Need-index-2-t20
+index-2-t20 c = search needs
 
-mul-t22 : tie.Need-mul-t22
-mul-t22 c = search needs
+mul-t23 : tie.Need-mul-t23
+mul-t23 c = search needs
 
-element-copy-out-t25 : tie.Need-element-copy-out-t25
-element-copy-out-t25 c = search needs
+index-1-t26 : tie.Need-index-1-t26
+index-1-t26 c = search needs
 
-mul-t26 : tie.Need-mul-t26
-mul-t26 c = search needs
+index-2-t26 : tie.Need-index-2-t26
+index-2-t26 c = search needs
 
-element-copy-out-t29 : tie.Need-element-copy-out-t29
-element-copy-out-t29 c = search needs
+mul-t29 : tie.Need-mul-t29
+mul-t29 c = search needs
 
-mul-t30 : tie.Need-mul-t30
-mul-t30 c = search needs
+index-1-t32 : tie.Need-index-1-t32
+index-1-t32 c = search needs
 
-element-copy-out-t33 : tie.Need-element-copy-out-t33
-element-copy-out-t33 c = search needs
-
-mul-t34 : tie.Need-mul-t34
-mul-t34 c = search needs
-
-element-copy-out-t37 : tie.Need-element-copy-out-t37
-element-copy-out-t37 c = search needs
+index-2-t32 : tie.Need-index-2-t32
+index-2-t32 c = search needs
 
 returns : tie.Need-returns
-returns c = desk-read _ _ (c .before .before .before .before .before .before .before .pre .low)
+returns c =
+    let a = c .before .before .before .before .args in
+    desk-read (a .size) (a .s) (a .set) (a .site) (a .arbiter) (now (a .tables)) (c .before .before .before .before .pre .low)
 
 pub desk-spec : {M : Type 1} → statement M
 desk-spec =
     tie.close
     (tie.spec
     sub-i
-    mul-t10
-    element-copy-out-t13
-    mul-t14
-    element-copy-out-t17
-    mul-t18
-    element-copy-out-t21
-    mul-t22
-    element-copy-out-t25
-    mul-t26
-    element-copy-out-t29
-    mul-t30
-    element-copy-out-t33
-    mul-t34
-    element-copy-out-t37
+    mul-t11
+    index-1-t14
+    index-2-t14
+    mul-t17
+    index-1-t20
+    index-2-t20
+    mul-t23
+    index-1-t26
+    index-2-t26
+    mul-t29
+    index-1-t32
+    index-2-t32
     returns)

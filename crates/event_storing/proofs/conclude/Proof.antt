@@ -1,86 +1,75 @@
--- `conclude`: 9, 8, or the next state.
-use Prim.Native.Nat.{_≤_}
-use mathlib.Core.Path.{sym, _∙_}
-use native.Mathlib.Omega.{arith}
+-- `conclude`: 9, 8, or the effect stored.
+use mathlib.Core.Path.{refl, sym, _∙_}
 use denote.Ref.{now}
-use lib.ListN.{length}
-use borrow.Author.Tests.{ne-eqb}
+use borrow.Author.Tests.{leb-true, not-true, not-false}
 use borrow.Author.Needs.{needs}
-use Rattle.model.specs.State.{tables}
-use Rattle.event_storing.proofs.Judged.{limit-same, has-room, over-limit, within-limit}
+use Rattle.event_desks.specs.Parts.{deskAt}
+use Rattle.event_storing.specs.Leaves.{messagesIn}
+use Rattle.event_storing.proofs.Leaving.{left-alone, left-changed, told-9, told-8, told-0}
 use Rattle.event_storing.proofs.conclude.Statement.{statement}
 use Rattle.event_storing.proofs.conclude.Tie as tie
-use Rattle.event_storing.proofs.exchange.Reads as exchange-reads
-use Rattle.event_storing.proofs.remaining.Reads as remaining-reads
-use Rattle.event_desks.proofs.put_back.Reads as put-back-reads
-use Rattle.event_limits.proofs.limit_code.Reads as limit-code-reads
+use Rattle.event_desks.proofs.store_rows.Reads as store-rows-reads
+use Rattle.event_limits.proofs.passes_limits.Reads as passes-limits-reads
+use Rattle.event_storing.proofs.Done.refused.Reads as refused-reads
+use Rattle.list_exchange.proofs.exchange.Reads as exchange-reads
+use Rattle.list_exchange.proofs.has_room.Reads as has-room-reads
 
-remaining-requires : tie.Need-remaining-requires
-remaining-requires c κs = search needs
+passes-limits-requires : tie.Need-passes-limits-requires
+passes-limits-requires c κs = search needs
 
-limit-code-requires : tie.Need-limit-code-requires
-limit-code-requires c κs = search needs
+refused-requires : tie.Need-refused-requires
+refused-requires c κs = search needs
 
 returns : tie.Need-returns
 returns c =
     let a = c .before .before .before .before .args in
     let p = c .before .before .before .before .pre in
-    let rows = now (a .list) in
-    let t = tables (a .rig) (now (a .held)) (now (a .heir)) (now (a .inquired)) (now (a .queued)) in
-    let high : a .count ≤ length rows = rw (p .1) (p .3) in
-    let e = limit-same (a .count) (a .place) rows (p .2) high t (a .a) (now (a .out)) (p .4) (c .before .before .remaining .result) (c .before .before .remaining .ensures) (c .before .limit-code .ensures) in
-    (over-limit (a .count) (a .place) rows (p .2) high (a .rig) (now (a .held)) (now (a .heir)) (now (a .inquired)) (now (a .queued)) (a .s) (a .a) (now (a .out)) (p .4) (c .before .limit-code .result) e (ne-eqb (c .before .limit-code .result) 0 (c .if1 .taken)), λ h. h)
+    let d = deskAt (a .a .desk .size) (a .s) (a .a .desk .members) (a .site) (a .arbiter) (now (a .tables)) in
+    let e = told-9 (a .accepted) d (messagesIn (a .count) (now (a .list))) (a .a) (now (a .out)) (a .count) (a .place) (now (a .list)) (p .3) (sym (c .before .before .passes-limits .ensures) ∙ c .before .if1 .taken) in
+    rw (e, c .refused .ensures) (left-alone _ _ (a .s) (a .count) 9 _ _ (a .site) (a .arbiter) _ refl refl refl (p .5))
 
-add-put-back : tie.Need-add-put-back
-add-put-back c =
-    let a = c .before .before .before .before .before .before .before .before .before .args in
-    let p = c .before .before .before .before .before .before .before .before .before .pre in
-    let rows = now (a .list) in
-    let t = tables (a .rig) (now (a .held)) (now (a .heir)) (now (a .inquired)) (now (a .queued)) in
-    let high : a .count ≤ length rows = rw (p .1) (p .3) in
-    let e = limit-same (a .count) (a .place) rows (p .2) high t (a .a) (now (a .out)) (p .4) (c .before .before .before .before .before .before .before .remaining .result) (c .before .before .before .before .before .before .before .remaining .ensures) (c .before .before .before .before .before .before .limit-code .ensures) in
-    let r = has-room (a .count) (a .place) rows (p .2) high t (a .a) (now (a .out)) (p .4) (sym e ∙ c .before .before .before .before .before .if1 .left) in
-    record { fits = omega (arith, r .1) }
+has-room-requires : tie.Need-has-room-requires
+has-room-requires c κs = search needs
 
-put-back-requires : tie.Need-put-back-requires
-put-back-requires c κs = search needs
-
-exchange-requires : tie.Need-exchange-requires
-exchange-requires c κs =
-    let a = c .before .before .before .before .before .before .before .before .before .before .before .args in
-    let p = c .before .before .before .before .before .before .before .before .before .before .before .pre in
-    let rows = now (a .list) in
-    let t = tables (a .rig) (now (a .held)) (now (a .heir)) (now (a .inquired)) (now (a .queued)) in
-    let high : a .count ≤ length rows = rw (p .1) (p .3) in
-    let e = limit-same (a .count) (a .place) rows (p .2) high t (a .a) (now (a .out)) (p .4) (c .before .before .before .before .before .before .before .before .before .remaining .result) (c .before .before .before .before .before .before .before .before .before .remaining .ensures) (c .before .before .before .before .before .before .before .before .limit-code .ensures) in
-    let r = has-room (a .count) (a .place) rows (p .2) high t (a .a) (now (a .out)) (p .4) (sym e ∙ c .before .before .before .before .before .before .before .if1 .left) in
-    (p .2, high, rw (p .1) (r .0), p .4)
-
-same-length : tie.Need-same-length
-same-length c = search needs
+refused-requires-2 : tie.Need-refused-requires-2
+refused-requires-2 c κs = search needs
 
 returns-2 : tie.Need-returns-2
 returns-2 c =
-    let a = c .before .before .before .before .before .before .before .before .before .before .before .before .before .args in
-    let p = c .before .before .before .before .before .before .before .before .before .before .before .before .before .pre in
-    let rows = now (a .list) in
-    let t = tables (a .rig) (now (a .held)) (now (a .heir)) (now (a .inquired)) (now (a .queued)) in
-    let high : a .count ≤ length rows = rw (p .1) (p .3) in
-    let e = limit-same (a .count) (a .place) rows (p .2) high t (a .a) (now (a .out)) (p .4) (c .before .before .before .before .before .before .before .before .before .before .before .remaining .result) (c .before .before .before .before .before .before .before .before .before .before .before .remaining .ensures) (c .before .before .before .before .before .before .before .before .before .before .limit-code .ensures) in
-    let z = sym e ∙ c .before .before .before .before .before .before .before .before .before .if1 .left in
-    let r = has-room (a .count) (a .place) rows (p .2) high t (a .a) (now (a .out)) (p .4) z in
-    let x = c .before .exchange .ensures in
-    (within-limit (a .count) (a .place) rows (p .2) high (a .rig) (now (a .held)) (now (a .heir)) (now (a .inquired)) (now (a .queued)) (a .s) (a .a) (now (a .out)) (p .4) z _ _ _ _ _ _ (c .before .exchange .result) (c .before .before .before .put-back .ensures) (same-length c ∙ p .1) (rw (x .count) (r .0)) (x .count) (x .list), x .blank)
+    let a = c .before .before .before .before .before .before .before .args in
+    let p = c .before .before .before .before .before .before .before .pre in
+    let d = deskAt (a .a .desk .size) (a .s) (a .a .desk .members) (a .site) (a .arbiter) (now (a .tables)) in
+    let e = told-8 (a .accepted) d (messagesIn (a .count) (now (a .list))) (a .a) (now (a .out)) (a .count) (a .place) (now (a .list)) (p .3) (sym (c .before .before .before .before .before .passes-limits .ensures) ∙ c .before .before .before .before .if1 .left) (sym (c .before .before .has-room .ensures) ∙ not-true _ (c .before .if2 .taken)) in
+    rw (e, c .refused2 .ensures) (left-alone _ _ (a .s) (a .count) 8 _ _ (a .site) (a .arbiter) _ refl refl refl (p .5))
+
+store-rows-requires : tie.Need-store-rows-requires
+store-rows-requires c κs = search needs
+
+exchange-requires : tie.Need-exchange-requires
+exchange-requires c κs =
+    let p = c .before .before .before .before .before .before .before .before .before .pre in
+    (p .1, p .2, leb-true _ _ (sym (c .before .before .before .before .has-room .ensures) ∙ not-false _ (c .before .before .before .if2 .left)), p .3)
+
+returns-3 : tie.Need-returns-3
+returns-3 c =
+    let a = c .before .before .before .before .before .before .before .before .before .before .before .before .args in
+    let p = c .before .before .before .before .before .before .before .before .before .before .before .before .pre in
+    let d = deskAt (a .a .desk .size) (a .s) (a .a .desk .members) (a .site) (a .arbiter) (now (a .tables)) in
+    let room = sym (c .before .before .before .before .before .before .before .has-room .ensures) ∙ not-false _ (c .before .before .before .before .before .before .if2 .left) in
+    let e = told-0 (a .accepted) d (messagesIn (a .count) (now (a .list))) (a .a) (now (a .out)) (a .count) (a .place) (now (a .list)) (p .3) (sym (c .before .before .before .before .before .before .before .before .before .before .passes-limits .ensures) ∙ c .before .before .before .before .before .before .before .before .before .if1 .left) room in
+    let x = c .before .before .exchange .ensures in
+    rw e (left-changed _ _ (a .s) (a .count) (a .place) (a .a) (now (a .out)) (c .before .before .exchange .result) (p .3) (c .before .before .before .before .store-rows .ensures) (x .0) (x .1) (rw (x .0 .count) (leb-true _ _ room)) (p .5))
 
 pub conclude-spec : {M : Type 1} → statement M
 conclude-spec =
     tie.close
     (tie.spec
-    remaining-requires
-    limit-code-requires
+    passes-limits-requires
+    refused-requires
     returns
-    add-put-back
-    put-back-requires
+    has-room-requires
+    refused-requires-2
+    returns-2
+    store-rows-requires
     exchange-requires
-    same-length
-    returns-2)
+    returns-3)

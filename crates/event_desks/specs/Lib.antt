@@ -1,0 +1,2 @@
+-- A site's part of what a call is lent.
+pub mod Parts
