@@ -3,7 +3,6 @@ use Prim.Native.Nat.{ℕ}
 use mathlib.Core.Path.{_≡_}
 use mathlib.Core.List.{List, []}
 use lib.ListN.{getD}
-use denote.Ref.{now}
 use Rattle.rig.specs.declared.Rig.{Rig}
 use Rattle.rig.specs.declared.Site.{Site}
 use Rattle.rig.specs.declared.Arbiter.{Arbiter}
@@ -11,7 +10,6 @@ use Rattle.rig.specs.declared.Desk.{Desk}
 use Rattle.rig.specs.Limits.{HELD, HEIR, INQUIRED, QUEUED}
 use Rattle.model.specs.Tables.{at, put}
 use Rattle.model.specs.State.{Tables, tables}
-use Rattle.list_rows.specs.State.{Lent}
 
 -- site k of n: its set, itself as a site and as an arbiter, and its row of each table
 abbrev pub deskAt : ℕ → ℕ → ℕ → Site → Arbiter → List (List (List ℕ)) → Desk
@@ -38,5 +36,5 @@ withRows t k d = record {
 }
 
 -- so they are left, whatever rig they belong to
-abbrev pub RowsStored : ℕ → Desk → Lent (List (List (List ℕ))) → Type 0
-RowsStored k d ts = (g : Rig) → tables g (now (ts .exit)) ≡ withRows (tables g (now (ts .entry))) k d
+abbrev pub RowsStored : ℕ → Desk → List (List (List ℕ)) → List (List (List ℕ)) → Type 0
+RowsStored k d ts ts′ = (g : Rig) → tables g ts′ ≡ withRows (tables g ts) k d

@@ -31,7 +31,7 @@ pub fn desk(size: u64, s: u64, set: u64, site: Site, arbiter: Arbiter, tables: &
 
 fn store_in(tables: &mut [Table], s: u64, d: Desk)
     requires { ⌜ SiteNumber s × (length (now tables) ≡ tableCount) ⌝ }
-    ensures { λ _. ⌜ RowsStored s d tables ⌝ }
+    ensures { λ _. ⌜ RowsStored s d (now (tables .entry)) (now (tables .exit)) ⌝ }
 {
     let i = (s - 1) as usize;
     let held = d.held;
@@ -47,7 +47,7 @@ fn store_in(tables: &mut [Table], s: u64, d: Desk)
 // An inner call: the rows of site s become those of the desk d.
 pub fn store_rows(tables: &mut Tables, s: u64, d: Desk)
     requires { ⌜ SiteNumber s ⌝ }
-    ensures { λ _. ⌜ RowsStored s d tables ⌝ }
+    ensures { λ _. ⌜ RowsStored s d (now (tables .entry)) (now (tables .exit)) ⌝ }
 {
     store_in(tables, s, d)
 }

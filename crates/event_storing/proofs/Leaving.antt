@@ -7,7 +7,6 @@ use native.Mathlib.Omega.{arith}
 use lib.Dec.{eqb, leb, ltb}
 use lib.ListN.{length, take, getD, length-map, length-append}
 use lib.Seq.{length-take-le}
-use denote.Ref.{now}
 use borrow.Author.Tests.{lt-ltb, le-ltb, leb-true, leb-false}
 use Rattle.basics.proofs.Basics.{clash}
 use Rattle.rig.specs.declared.Site.{Site}
@@ -20,45 +19,40 @@ use Rattle.model.specs.Desk.{Effect}
 use Rattle.model.specs.Event.{numbersFit, limitCode, possible, Outcome, outcome, judged, padded}
 use Rattle.model.proofs.Tables.{put-self}
 use Rattle.list_rows.specs.Rows.{messageOf, ZeroPast, without}
-use Rattle.list_rows.specs.State.{Lent}
 use Rattle.list_rows.proofs.Rows.{cleared-padded}
 use Rattle.list_exchange.specs.Exchange.{Exchanged}
 use Rattle.event_effects.specs.declared.Acted.{Acted}
 use Rattle.event_desks.specs.Parts.{deskAt, RowsStored}
 use Rattle.event_storing.specs.declared.Done.{Done}
-use Rattle.event_storing.specs.Leaves.{refused, Leaves, messagesIn, effectOf, staying}
+use Rattle.event_storing.specs.Leaves.{refused, Left, messagesIn, effectOf, staying}
 
-module _ (ts : Lent (List (List (List ℕ)))) (list : Lent (List (List ℕ))) (k n : ℕ) where
+module _ (ts ts′ : List (List (List ℕ))) (list list′ : List (List ℕ)) (k n : ℕ) where
   -- a refusal, with nothing written
-  pub left-alone : (c size set : ℕ) (s : Site) (a : Arbiter) (ms : List Message) → eqb c 0 ≡ false → now (ts .exit) ≡ now (ts .entry) → now (list .exit) ≡ now (list .entry) → ZeroPast n (now (list .entry))
-      → Leaves (outcome c (deskAt size k set s a (now (ts .entry))) ms) k n ts list (refused c s a n)
-  left-alone c size set s a ms h t l z =
-      let x = now (ts .entry) in
-      record {
-        code = refl;
-        site = refl;
-        arbiter = refl;
-        rows = λ g. rw (t, put-self [] (getD x HELD []) k, put-self [] (getD x HEIR []) k, put-self [] (getD x INQUIRED []) k, put-self [] (getD x QUEUED []) k);
-        stays = λ _. (refl, l);
-        changes = λ e. clash (eqb c 0) e h;
-        zeros = rw l z;
-      }
+  pub left-alone : (c size set : ℕ) (s : Site) (a : Arbiter) (ms : List Message) → eqb c 0 ≡ false → ts′ ≡ ts → list′ ≡ list → ZeroPast n list
+      → Left (outcome c (deskAt size k set s a ts) ms) k n ts ts′ list list′ (refused c s a n)
+  left-alone c size set s a ms h t l z = record {
+    code = refl;
+    site = refl;
+    arbiter = refl;
+    rows = λ g. rw (t, put-self [] (getD ts HELD []) k, put-self [] (getD ts HEIR []) k, put-self [] (getD ts INQUIRED []) k, put-self [] (getD ts QUEUED []) k);
+    stays = λ _. (refl, l);
+    changes = λ e. clash (eqb c 0) e h;
+    zeros = rw l z;
+  }
 
   -- an effect within the limits: the desk stored, the list exchanged
   pub left-changed : (place : ℕ) (a : Acted) (out : List (List ℕ)) (m : ℕ) → a .count ≤ length out
-      → RowsStored k (a .desk) ts → Exchanged n place (now (list .entry)) out (a .count) m (now (list .exit)) → length (now (list .exit)) ≡ messageLimit → m ≤ messageLimit → ZeroPast n (now (list .entry))
-      → Leaves (outcome 0 (a .desk) (staying n place (now (list .entry)) ++ messagesIn (a .count) out)) k n ts list (record { code = 0; site = a .desk .site; arbiter = a .desk .arbiter; count = m })
+      → RowsStored k (a .desk) ts ts′ → Exchanged n place list out (a .count) m list′ → length list′ ≡ messageLimit → m ≤ messageLimit → ZeroPast n list
+      → Left (outcome 0 (a .desk) (staying n place list ++ messagesIn (a .count) out)) k n ts ts′ list list′ (record { code = 0; site = a .desk .site; arbiter = a .desk .arbiter; count = m })
   left-changed place a out m fits rows x long few z =
-      let before = now (list .entry) in
-      let after = now (list .exit) in
-      let zeros : ZeroPast m after = x .zeros z in
-      let count : m ≡ length (staying n place before ++ messagesIn (a .count) out) =
-      rw (length-append, length-map (without place (take n before)) messageOf, length-map (take (a .count) out) messageOf, length-take-le (a .count) out fits) (x .count) in
-      let messages : map messageOf after ≡ padded (staying n place before ++ messagesIn (a .count) out) =
+      let zeros : ZeroPast m list′ = x .zeros z in
+      let count : m ≡ length (staying n place list ++ messagesIn (a .count) out) =
+      rw (length-append, length-map (without place (take n list)) messageOf, length-map (take (a .count) out) messageOf, length-take-le (a .count) out fits) (x .count) in
+      let messages : map messageOf list′ ≡ padded (staying n place list ++ messagesIn (a .count) out) =
       ap (map messageOf) (sym zeros)
-      ∙ cleared-padded m after long (omega arith)
+      ∙ cleared-padded m list′ long (omega arith)
       ∙ ap (λ (r : List (List ℕ)). padded (map messageOf r)) (x .list)
-      ∙ ap padded (map-append messageOf (without place (take n before)) (take (a .count) out)) in
+      ∙ ap padded (map-append messageOf (without place (take n list)) (take (a .count) out)) in
       record { code = refl; site = refl; arbiter = refl; rows = rows; stays = λ e. clash false (sym e) refl; changes = λ _. (count, messages); zeros = zeros }
 
 -- What the limits make of an effect.

@@ -10,10 +10,11 @@ use rig::Arbiter;
 use rig::Site;
 use rig::Tables;
 ghost use mathlib.Core.Path.{_≡_};
-ghost use Prim.Native.Nat.{_≤_, _<_};
+ghost use Prim.Native.Nat.{ℕ, _≤_, _<_};
 ghost use lib.ListN.{length};
 ghost use Rattle.rig.specs.Limits.{messageLimit, SiteNumber};
 ghost use Rattle.list_rows.specs.Rows.{ZeroPast};
+ghost use Rattle.event_desks.specs.Parts.{deskAt};
 ghost use Rattle.event_storing.specs.Leaves.{refused, concluded, Leaves};
 
 // The code of an event, its site and arbiter after it, and how many messages are then under way. The site's rows and the list are written
@@ -54,7 +55,7 @@ pub fn conclude(
     out: &[Row],
 ) -> Done
     requires { ⌜ SiteNumber s × (place ≤ count) × (count ≤ messageLimit) × (a .count ≤ length (now out)) × (a .count < messageLimit) × ZeroPast count (now list) ⌝ }
-    ensures { λ r. ⌜ Leaves (concluded accepted s site arbiter tables list count place a (now (out .entry))) s count tables list r ⌝ }
+    ensures { λ r. ⌜ ((n set : ℕ) → Leaves (concluded accepted (deskAt n s set site arbiter (now (tables .entry))) list count place a (now (out .entry))) s count tables list r) ⌝ }
 {
     let d = a.desk;
     if passes_limits(accepted, d.site.clock, d.arbiter.grant, out, a.count) {

@@ -12,6 +12,9 @@ pub type Row = [u64; Message::FIELDS];
 // The list of messages under way, in rows.
 pub type Rows = [Row; Rig::MESSAGES];
 
+// Room for the messages that one event sends.
+pub type Outbox = [Row; Rig::SENT];
+
 pub fn row(m: Message) -> Row
     ensures { λ r. ⌜ r ≡ rowOf m ⌝ }
 {

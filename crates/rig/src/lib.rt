@@ -98,6 +98,9 @@ impl Rig {
 
     pub const NUMBERS: u64 = 2_000_000;
 
+    // The messages that one event may send: at most two for each site.
+    pub const SENT: usize = 2 * Rig::SITES;
+
     // Tables in which nothing is held, named as heir, inquired or queued.
     pub fn blank() -> Tables
         ensures { λ r. ⌜ r ≡ blankTables ⌝ }
