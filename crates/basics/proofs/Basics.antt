@@ -61,7 +61,7 @@ unfolding update
 update-other f i v j h = rw (ne-eqb j i h)
 
 -- two updates at one place
-pub update-update : (f : ℕ → ℕ) (i a b : ℕ) → update (update f i a) i b ≡ update f i b
+pub update-update : {A : Type 0} (f : ℕ → A) (i : ℕ) (a b : A) → update (update f i a) i b ≡ update f i b
 unfolding update
 update-update f i a b = fun-ext (λ k. by-bool (eqb k i) (λ e. rw e) (λ e. rw e))
 

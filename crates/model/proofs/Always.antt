@@ -21,6 +21,7 @@ use Rattle.rig.specs.Limits.{siteLimit, messageLimit, eventLimit, numberLimit}
 use Rattle.protocol.specs.Message as M
 use Rattle.protocol.specs.System.{System, Lawful, settingOf}
 use Rattle.protocol.specs.Rig as R
+use Rattle.protocol.proofs.Asks.{same-number}
 use Rattle.protocol.proofs.Seen.{viewOf}
 use Rattle.protocol.proofs.Clauses.{Clauses, FitsTables}
 use Rattle.protocol.proofs.RigInvariant.{RigInvariant, clauses-at, all-fit}
@@ -38,7 +39,7 @@ use Rattle.model.specs.Run.{fresh, run, Always}
 use Rattle.model.specs.Always.{NineByCount, NumbersWithin, NumbersSmall, AlwaysShaped, AlwaysLong, fitsRule, allFit, NeverStray}
 use Rattle.model.proofs.Setup.{Accepted, accepts, accepted-code}
 use Rattle.model.proofs.Machine.{modeNumber, sentOf, rigOf, rests-same, waits-same}
-use Rattle.model.proofs.Lawful.{systemFrom, lawful, kept-past, kept-accepted}
+use Rattle.model.proofs.Lawful.{told-below, systemFrom, lawful, kept-past, kept-accepted}
 use Rattle.model.proofs.Plain.{wireOf, AllPlain, both}
 use Rattle.model.proofs.Tables.{at-put-same}
 use Rattle.model.proofs.Reached.{Reached, Move, Moves, attempt-moves, moved}
@@ -52,7 +53,7 @@ number-of b j (M.reply f k n) h = h
 number-of b j (M.release k n) h = h
 number-of b j (M.handOver k x n) h = h
 number-of b j (M.inquire k n) h = h
-number-of b j (M.fail k) h = h
+number-of b j (M.fail k n) h = omega arith
 number-of b j (M.yield k n) h = h
 number-of b j (M.transfer k x n) h = h
 
@@ -110,14 +111,14 @@ module _ (n : ℕ) (l : List ℕ) (a : Accepted n l) (past : (k : ℕ) → n < k
   bound-fits = omega (arith, r .bounded)
 
   below : RigBelow bound state
-  below = rw (r .same, r .counted) (run-numbers y (r .events))
+  below = rw (r .same, r .counted) (run-numbers y told-below (r .events))
 
   pub numbers-within : NumbersWithin bound s
   numbers-within = record {
     clock = below .clock;
-    seq = below .seq;
+    seq = below .ask;
     grant = λ j. below .rows j .grant;
-    holderSeq = λ j. below .rows j .holderSeq;
+    holderSeq = λ j. below .rows j .holderAsk;
     held = λ k j. below .rows j .held k;
     inquired = λ k j. below .rows j .inquired k;
     queued = λ j k. below .rows j .queued k;
@@ -144,7 +145,7 @@ module _ (n : ℕ) (l : List ℕ) (a : Accepted n l) (past : (k : ℕ) → n < k
   mode-shaped Rest k e = refl
   mode-shaped (Waiting q f) k e =
       let w = clauses 1 .waitingNumbered k (ap modeNumber e) in
-      let b = below .seq k in
+      let b = below .ask k in
       let q1 : seqIn (modeOf t k) ≡ q = ap seqIn e in
       is-given q (omega arith) (omega (arith, bound-fits))
   mode-shaped Inside k e = refl
@@ -164,11 +165,11 @@ module _ (n : ℕ) (l : List ℕ) (a : Accepted n l) (past : (k : ℕ) → n < k
   unfolding arbiterShaped holderShaped
   arbiter-shaped j =
       let c = clauses j .holderRange in
-      let q = below .rows j .holderSeq in
+      let q = below .rows j .holderAsk in
       let fits : inRange (sizeOf t) j || eqb (arbiterOf t j .grant) 0 ≡ true = by-bool (inRange (sizeOf t) j) (λ e. rw e) (λ e. rw (e, zero-past j (arbiterOf t j .grant) (inv .grantInRange j) e)) in
       rw (is-number (arbiterOf t j .grant) (omega (arith, below .rows j .grant, bound-fits)), fits)
       (by-bool (eqb (arbiterOf t j .holder) 0)
-      (λ e. rw (e, eq-eqb (arbiterOf t j .seq) 0 (c .1 (eqb-true _ 0 e))))
+      (λ e. rw (e, eq-eqb (arbiterOf t j .seq) 0 (same-number (c .1 (eqb-true _ 0 e)))))
       (λ e. let h = c .0 (eqb-false _ 0 e) in rw (e, member-same (arbiterOf t j .holder) j, h .2, is-given (arbiterOf t j .seq) (h .0) (omega (arith, q, bound-fits)))))
 
   place-shaped : (k : ℕ) → placeShaped (t .rig) k ≡ true
@@ -229,13 +230,13 @@ module _ (n : ℕ) (l : List ℕ) (a : Accepted n l) (past : (k : ℕ) → n < k
 
   wire-shaped : (j : ℕ) (m : M.Message) → FitsTables (settingOf y j) (viewOf state j) m → numberOf m ≤ bound → messageShaped (sizeOf t) (setsOf t) (wireOf j m) ≡ true
   unfolding FitsTables messageShaped numberShaped aboutShaped plainShaped releaseShaped
-  wire-shaped j (M.request k x) f b = rw (site-in k j (f .3), arbiter-in k j (f .3), given x (f .2) b, tie k j (f .3))
+  wire-shaped j (M.request k x) f b = rw (site-in k j (f .3), arbiter-in k j (f .3), given x.number (f .2) b, tie k j (f .3))
   wire-shaped j (M.reply u k x) f b = rw (in-range (sizeOf t) u (f .4) (rw (r .size) (f .5)), site-in k j (f .3), given x (f .2) b, tie k j (f .3))
   wire-shaped j (M.release k x) f b = rw (site-in k j (f .2), arbiter-in k j (f .2), given x (f .1) b, tie k j (f .2))
   wire-shaped j (M.handOver k h x) f b =
       rw (site-in k j (f .2), arbiter-in k j (f .2), given x (f .4) b, tie k j (f .2), tie h j (f .3)) (or-second (eqb h 0) true refl)
   wire-shaped j (M.inquire k x) f b = rw (site-in k j (f .2), arbiter-in k j (f .2), given x (f .0) b, tie k j (f .2))
-  wire-shaped j (M.fail k) f b = rw (site-in k j f, arbiter-in k j f, tie k j f)
+  wire-shaped j (M.fail k x) f b = rw (site-in k j f, arbiter-in k j f, tie k j f)
   wire-shaped j (M.yield k x) f b = rw (site-in k j (f .6), arbiter-in k j (f .6), given x (f .5) b, tie k j (f .6))
   wire-shaped j (M.transfer k h x) f b = rw (site-in k j (f .3), arbiter-in k j (f .3), given x (f .0) b, tie k j (f .3), tie h j (f .4))
 
@@ -271,7 +272,7 @@ module _ (n : ℕ) (l : List ℕ) (a : Accepted n l) (past : (k : ℕ) → n < k
       (f .0)
   wire-fits j (M.handOver k h x) f = let w = law .siteInRange h j (f .3) .0 in rw (ne-eqb h 0 (omega arith))
   wire-fits j (M.inquire k x) f = refl
-  wire-fits j (M.fail k) f = refl
+  wire-fits j (M.fail k x) f = refl
   wire-fits j (M.yield k x) f = rw (eq-eqb x (arbiterOf t j .grant) (f .1), eq-eqb k (arbiterOf t j .holder) (f .0))
   wire-fits j (M.transfer k h x) f = refl
 
@@ -292,7 +293,7 @@ module _ (n : ℕ) (l : List ℕ) (a : Accepted n l) (past : (k : ℕ) → n < k
   numbers-fit k e rest v c =
       let b = suc (suc bound) in
       let fits : b ≤ numberLimit = omega arith in
-      let next : RigBelow b (rigOf (withDesk t k (e .desk)) (rest ++ e .sent)) = rw (moved n l s k e rest r v) (step-bounded y bound state (v .step) below) in
+      let next : RigBelow b (rigOf (withDesk t k (e .desk)) (rest ++ e .sent)) = rw (moved n l s k e rest r v) (step-bounded y told-below bound state (v .step) below) in
       let clock : e .desk .site .clock ≤ b = rw (at-put-same restingSite (t .rig .sites) k (e .desk .site) (v .low) (rw (r .sized .sites) (v .high))) at (next .clock k) in
       let grant : e .desk .arbiter .grant ≤ b = rw (at-put-same freeArbiter (t .rig .arbiters) k (e .desk .arbiter) (v .low) (rw (r .sized .arbiters) (v .high))) at (next .rows k .grant) in
       rw (

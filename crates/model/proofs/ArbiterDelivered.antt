@@ -10,32 +10,33 @@ use Rattle.rig.specs.declared.Message.{Message}
 use Rattle.rig.specs.declared.Site.{Site}
 use Rattle.rig.specs.Limits.{siteLimit}
 use Rattle.basics.specs.Helpers.{update}
+use Rattle.protocol.specs.Ask.{Ask, askWith}
 use Rattle.protocol.specs.Message as M
 use Rattle.protocol.specs.Local as P
 use Rattle.protocol.specs.Site.{handled}
 use Rattle.protocol.specs.Rig as R
 use Rattle.basics.proofs.Basics.{update-same, update-other}
 use Rattle.model.specs.Tables.{at, cell}
-use Rattle.model.specs.State.{Tables, setsOf, hasMember, siteOf, modeOf, seqIn, failedIn, heldOf, heirOf, inquiredOf, deskOf, withDesk}
+use Rattle.model.specs.State.{Tables, setsOf, hasMember, siteOf, modeOf, failedIn, heldOf, heirOf, inquiredOf, deskOf, withDesk}
 use Rattle.model.specs.Desk.{Effect}
 use Rattle.model.specs.Arbiter.{holderOf, granted, queuedUp, clockRaised, onRequest, onRelease, onYield}
-use Rattle.model.proofs.Machine.{modeNumber, systemOf, sitesOf, rowOf, sentOf, rigOf, localAt, Sized, desk-sized, rig-path, sites-path, update-self, map-append, sitesWith, clockWith, rig-with}
+use Rattle.model.proofs.Machine.{modeNumber, askIn, systemOf, sitesOf, rowOf, sentOf, rigOf, localAt, Sized, desk-sized, rig-path, sites-path, update-self, map-append, sitesWith, clockWith, rig-with}
 use Rattle.model.proofs.ArbiterRules.{Sees, SiteKept, request-sees, release-sees, handOver-sees, yield-sees, request-kept, release-kept, yield-kept}
 
 -- a site that keeps its mode
 pub sites-kept : (t : Tables) (b : ℕ) (d : Desk) → d .site .mode ≡ modeOf t b → sitesWith t b (d .site .mode) ≡ sitesOf t
-sites-kept t b d e = sites-path (update-self _ b _ (ap modeNumber (sym e))) (update-self _ b _ (ap seqIn (sym e))) (update-self _ b _ (ap failedIn (sym e)))
+sites-kept t b d e = sites-path (update-self _ b _ (ap modeNumber (sym e))) (update-self _ b _ (ap askIn (sym e))) (update-self _ b _ (ap failedIn (sym e)))
 
 -- entries that stay as they are
-row-kept : (t : Tables) (b : ℕ) (d : Desk) (g h s : ℕ) (q : ℕ → ℕ) (j : ℕ) → d .held ≡ deskOf t b .held → d .heir ≡ deskOf t b .heir → d .inquired ≡ deskOf t b .inquired
-    → _≡_ {A = R.Row} (record { grant = g; holder = h; holderSeq = s; queued = q; held = update (λ k. heldOf t k j) b (at 0 (d .held) j); heir = update (λ k. heirOf t k j) b (at 0 (d .heir) j); inquired = update (λ k. inquiredOf t k j) b (at 0 (d .inquired) j) })
-    (record { grant = g; holder = h; holderSeq = s; queued = q; held = λ k. heldOf t k j; heir = λ k. heirOf t k j; inquired = λ k. inquiredOf t k j })
+row-kept : (t : Tables) (b : ℕ) (d : Desk) (g h : ℕ) (a : Ask) (q : ℕ → Ask) (j : ℕ) → d .held ≡ deskOf t b .held → d .heir ≡ deskOf t b .heir → d .inquired ≡ deskOf t b .inquired
+    → _≡_ {A = R.Row} (record { grant = g; holder = h; holderAsk = a; queued = q; held = update (λ k. heldOf t k j) b (at 0 (d .held) j); heir = update (λ k. heirOf t k j) b (at 0 (d .heir) j); inquired = update (λ k. inquiredOf t k j) b (at 0 (d .inquired) j) })
+    (record { grant = g; holder = h; holderAsk = a; queued = q; held = λ k. heldOf t k j; heir = λ k. heirOf t k j; inquired = λ k. inquiredOf t k j })
 unfolding deskOf cell
-row-kept t b d g h s q j e f i =
+row-kept t b d g h a q j e f i =
     let x = update-self (λ k. heldOf t k j) b (at 0 (d .held) j) (rw e) in
     let y = update-self (λ k. heirOf t k j) b (at 0 (d .heir) j) (rw f) in
     let z = update-self (λ k. inquiredOf t k j) b (at 0 (d .inquired) j) (rw i) in
-    λ w. record { grant = g; holder = h; holderSeq = s; queued = q; held = x w; heir = y w; inquired = z w }
+    λ w. record { grant = g; holder = h; holderAsk = a; queued = q; held = x w; heir = y w; inquired = z w }
 
 module _ (t : Tables) (z : Sized t) (b : ℕ) (lo : 1 ≤ b) (hi : b ≤ siteLimit) (rest : List Message) where
   -- what an arbiter's rule makes of the rig; its desk d has the clock of before or another
@@ -83,7 +84,7 @@ module _ (t : Tables) (z : Sized t) (b : ℕ) (lo : 1 ≤ b) (hi : b ≤ siteLim
     yield-delivered x l h = of-rule (onYield (deskOf t b) k x) _ (yield-kept (deskOf t b) k x long) (yield-sees (localAt t b) members (deskOf t b) long size k x l h)
 
     pub request-delivered : (x : ℕ) → 1 ≤ k → k ≤ siteLimit
-        → rigOf (withDesk t b (onRequest (deskOf t b) k x .desk)) (rest ++ onRequest (deskOf t b) k x .sent) ≡ R.delivered (systemOf t) (rigOf t ms) (map sentOf rest) b (M.request k x)
+        → rigOf (withDesk t b (onRequest (deskOf t b) k x .desk)) (rest ++ onRequest (deskOf t b) k x .sent) ≡ R.delivered (systemOf t) (rigOf t ms) (map sentOf rest) b (M.request k (askWith x))
     unfolding R.delivered handled deskOf cell onRequest clockRaised
     request-delivered x l h =
         let d = clockRaised (deskOf t b) x in

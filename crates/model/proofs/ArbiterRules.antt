@@ -13,6 +13,7 @@ use Rattle.rig.specs.declared.Desk.{Desk}
 use Rattle.rig.specs.declared.Arbiter.{Arbiter}
 use Rattle.rig.specs.Limits.{siteLimit}
 use Rattle.basics.specs.Helpers.{update}
+use Rattle.protocol.specs.Ask.{Ask, askWith, noAsk}
 use Rattle.protocol.specs.Setting.{Setting}
 use Rattle.protocol.specs.Local as P
 use Rattle.protocol.specs.Arbiter as A
@@ -24,12 +25,16 @@ use Rattle.model.specs.Arbiter.{grantOf, holderOf, holderKey, siteKey, h
 use Rattle.basics.proofs.Basics.{by-bool}
 use Rattle.model.proofs.Heads.{head-within}
 use Rattle.model.proofs.Tables.{at-put, length-put}
-use Rattle.model.proofs.Lawful.{before}
+use Rattle.model.proofs.Lawful.{before, told}
 use Rattle.model.proofs.Machine.{sentOf}
+
+-- a queue, given by its numbers
+abbrev pub asksIn : List ℕ → ℕ → Ask
+asksIn q k = askWith (at 0 q k)
 
 -- the desk's arbiter and queue, in the place of those of l
 abbrev pub arbiterIn : P.Local → Desk → P.Local
-arbiterIn l d = P.withArbiter l (d .arbiter .grant) (d .arbiter .holder) (d .arbiter .seq) (λ k. at 0 (d .queued) k)
+arbiterIn l d = P.withArbiter l (d .arbiter .grant) (d .arbiter .holder) (askWith (d .arbiter .seq)) (asksIn (d .queued))
 
 -- what an effect is for the machine: its tables, and the messages of this arbiter
 pub record Sees (l : P.Local) (e : Effect) (v : P.View) : Type 0 where
@@ -54,13 +59,14 @@ kept-then : (d u v : Desk) → SiteKept d u → SiteKept u v → SiteKept d v
 kept-then d u v x y = record { size = y .size ∙ x .size; number = y .number ∙ x .number; members = y .members ∙ x .members; site = y .site ∙ x .site; held = y .held ∙ x .held; heir = y .heir ∙ x .heir; inquired = y .inquired ∙ x .inquired; queued = y .queued }
 
 -- a queue after a store
-queue-put : (q : List ℕ) (k n : ℕ) → length q ≡ siteLimit → 1 ≤ k → k ≤ siteLimit → _≡_ {A = ℕ → ℕ} (λ i. at 0 (put q k n) i) (update (λ i. at 0 q i) k n)
-queue-put q k n e lo hi = fun-ext (at-put 0 q k n lo (omega arith))
+queue-put : (q : List ℕ) (k n : ℕ) → length q ≡ siteLimit → 1 ≤ k → k ≤ siteLimit → _≡_ {A = ℕ → Ask} (asksIn (put q k n)) (update (asksIn q) k (askWith n))
+unfolding update
+queue-put q k n e lo hi = fun-ext (λ i. ap askWith (at-put 0 q k n lo (omega arith) i) ∙ by-bool (eqb i k) (λ h. rw h) (λ h. rw h))
 
 module _ (l : P.Local) (mem : ℕ → Bool) where
   -- the machine's setting for the desk
   abbrev pub settingAt : Desk → Setting
-  settingAt d = record { size = d .size; arbiter = d .number; member = mem; comesBefore = before }
+  settingAt d = record { size = d .size; arbiter = d .number; member = mem; comesBefore = before; told = told }
 
   abbrev seen : Desk → P.View
   seen d = P.view (arbiterIn l d) []
@@ -70,27 +76,27 @@ module _ (l : P.Local) (mem : ℕ → Bool) where
   headOf-within d = head-within (d .queued) (d .size)
 
   -- the head of a queue is the machine's
-  head-same : (d : Desk) (row : List ℕ) (n : ℕ) → head row n ≡ A.head (settingAt d) (λ k. at 0 row k) n
+  head-same : (d : Desk) (row : List ℕ) (n : ℕ) → head row n ≡ A.head (settingAt d) (asksIn row) n
   unfolding head headWith A.head
   head-same d row zero = refl
   head-same d row (suc n) = rw (head-same d row n)
 
-  headOf-same : (d : Desk) (q : ℕ → ℕ) → _≡_ {A = ℕ → ℕ} (λ k. at 0 (d .queued) k) q → headOf d ≡ A.headOf (settingAt d) q
+  headOf-same : (d : Desk) (q : ℕ → Ask) → _≡_ {A = ℕ → Ask} (asksIn (d .queued)) q → headOf d ≡ A.headOf (settingAt d) q
   unfolding headOf
-  headOf-same d q e = head-same d (d .queued) (d .size) ∙ ap (λ (f : ℕ → ℕ). A.headOf (settingAt d) f) e
+  headOf-same d q e = head-same d (d .queued) (d .size) ∙ ap (λ (f : ℕ → Ask). A.headOf (settingAt d) f) e
 
   nothing : (d : Desk) → Sees l (effect d []) (seen d)
   unfolding sentBy
   nothing d = record { tables = refl; sent = refl }
 
   module _ (d : Desk) (long : length (d .queued) ≡ siteLimit) where
-    pub granted-sees : (k n : ℕ) → 1 ≤ k → k ≤ siteLimit → Sees l (granted d k n) (A.granted (settingAt d) (seen d) k n)
+    pub granted-sees : (k n : ℕ) → 1 ≤ k → k ≤ siteLimit → Sees l (granted d k n) (A.granted (settingAt d) (seen d) k (askWith n))
     unfolding granted nextHeir A.granted sentBy
     granted-sees k n lo hi =
         let u = heldBy d (grantOf d + 1) k n (without d k) in
         let q = queue-put (d .queued) k 0 long lo hi in
         let h = headOf-same u _ q in
-        by-bool (eqb (A.headOf (settingAt d) (update (λ i. at 0 (d .queued) i) k 0)) 0)
+        by-bool (eqb (A.headOf (settingAt d) (update (asksIn (d .queued)) k noAsk)) 0)
         (λ e. rw e (record { tables = rw (q, add-one); sent = rw (h, e, add-one) }))
         (λ e. rw e (record { tables = rw (q, add-one); sent = rw (h, e, add-one) }))
 
@@ -102,7 +108,7 @@ module _ (l : P.Local) (mem : ℕ → Bool) where
         (λ e. let f = rw h at e in rw (e, f) (nothing d))
         (λ e. let f = rw h at e in
         let ne = eqb-false (headOf d) 0 e in
-        rw (e, f, h) (granted-sees (A.headOf (settingAt d) (λ k. at 0 (d .queued) k)) _ (omega (arith, h)) (omega (arith, h, headOf-within d))))
+        rw (e, f, h) (granted-sees (A.headOf (settingAt d) (asksIn (d .queued))) _ (omega (arith, h)) (omega (arith, h, headOf-within d))))
 
   -- the head is granted, seen from tables that are known
   grantedHead-from : (d : Desk) → length (d .queued) ≡ siteLimit → d .size ≤ siteLimit → (x : P.Local) → arbiterIn l d ≡ x → Sees l (grantedHead d) (A.grantedHead (settingAt d) (P.view x []))
@@ -114,7 +120,7 @@ module _ (l : P.Local) (mem : ℕ → Bool) where
     unfolding answers failFormer inquireOrFail A.answers A.failFormer A.inquireOrFail sentBy
     answers-same k former =
         let h = headOf-same d _ refl in
-        by-bool (eqb (A.headOf (settingAt d) (λ i. at 0 (d .queued) i)) k)
+        by-bool (eqb (A.headOf (settingAt d) (asksIn (d .queued))) k)
         (λ e. by-bool (formerTold d k former)
         (λ x. by-bool (comesBefore (siteKey d k) (holderKey d)) (λ y. rw (h, e, x, y)) (λ y. rw (h, e, x, y)))
         (λ x. by-bool (comesBefore (siteKey d k) (holderKey d)) (λ y. rw (h, e, x, y)) (λ y. rw (h, e, x, y))))
@@ -130,7 +136,7 @@ module _ (l : P.Local) (mem : ℕ → Bool) where
         (λ e. rw e)
 
   module _ (d : Desk) (long : length (d .queued) ≡ siteLimit) (size : d .size ≤ siteLimit) where
-    queuedUp-sees : (k n : ℕ) → 1 ≤ k → k ≤ siteLimit → Sees l (queuedUp d k n) (A.queuedUp (settingAt d) (seen d) k n)
+    queuedUp-sees : (k n : ℕ) → 1 ≤ k → k ≤ siteLimit → Sees l (queuedUp d k n) (A.queuedUp (settingAt d) (seen d) k (askWith n))
     unfolding queuedUp A.queuedUp
     queuedUp-sees k n lo hi =
         let u = withQueued d k n in
@@ -138,10 +144,10 @@ module _ (l : P.Local) (mem : ℕ → Bool) where
         let long′ = length-put (d .queued) k n ∙ long in
         record {
           tables = rw q (sym (answers-tables u long′ size (settingAt d) _ k _));
-          sent = rw (headOf-same d _ refl) (rw q at (answers-same u long′ size k (A.headOf (settingAt d) (λ i. at 0 (d .queued) i))));
+          sent = rw (headOf-same d _ refl) (rw q at (answers-same u long′ size k (A.headOf (settingAt d) (asksIn (d .queued)))));
         }
 
-    pub request-sees : (k n : ℕ) → 1 ≤ k → k ≤ siteLimit → Sees l (cond (eqb (holderOf d) 0) (granted d k n) (queuedUp d k n)) (A.onRequest (settingAt d) (seen d) k n)
+    pub request-sees : (k n : ℕ) → 1 ≤ k → k ≤ siteLimit → Sees l (cond (eqb (holderOf d) 0) (granted d k n) (queuedUp d k n)) (A.onRequest (settingAt d) (seen d) k (askWith n))
     unfolding A.onRequest
     request-sees k n lo hi = by-bool (eqb (holderOf d) 0) (λ e. rw e (granted-sees d long k n lo hi)) (λ e. rw e (queuedUp-sees k n lo hi))
 
@@ -167,11 +173,11 @@ module _ (l : P.Local) (mem : ℕ → Bool) where
         let u = heldBy d (grantOf d + 1) x (queuedAt d x) (without d x) in
         let q = queue-put (d .queued) x 0 long lo hi in
         let h = headOf-same u _ q in
-        let y = A.headOf (settingAt d) (update (λ i. at 0 (d .queued) i) x 0) in
-        let at-y : at 0 (without d x) y ≡ update (λ i. at 0 (d .queued) i) x 0 y = ap (λ (f : ℕ → ℕ). f y) q in
+        let y = A.headOf (settingAt d) (update (asksIn (d .queued)) x noAsk) in
+        let at-y : at 0 (without d x) y ≡ (update (asksIn (d .queued)) x noAsk y) .number = ap (λ (f : ℕ → Ask). (f y) .number) q in
         by-bool (eqb y 0)
         (λ e. rw e (record { tables = rw (q, add-one); sent = rw (h, e) }))
-        (λ e. by-bool (before (update (λ i. at 0 (d .queued) i) x 0 y) y (queuedAt d x) x)
+        (λ e. by-bool (before (update (asksIn (d .queued)) x noAsk y) y (askWith (queuedAt d x)) x)
         (λ f. rw (e, f) (record { tables = rw (q, add-one); sent = rw (h, e, at-y, f, add-one) }))
         (λ f. rw (e, f) (record { tables = rw (q, add-one); sent = rw (h, e, at-y, f, add-one) })))
 

@@ -9,17 +9,18 @@ use Rattle.basics.proofs.Basics.{by-bool}
 use Rattle.rig.specs.declared.Message.{Message}
 use Rattle.rig.specs.declared.Mode.the-variants.{Inside}
 use Rattle.rig.specs.Limits.{siteLimit}
+use Rattle.protocol.specs.Ask.{askWith}
 use Rattle.protocol.specs.Rig as R
 use Rattle.model.specs.Tables.{cell}
-use Rattle.model.specs.State.{Tables, seqIn, failedIn, sizeOf, setsOf, hasMember, siteOf, modeOf, heldOf, heirOf, deskOf, withDesk}
+use Rattle.model.specs.State.{Tables, failedIn, sizeOf, setsOf, hasMember, siteOf, modeOf, heldOf, heirOf, deskOf, withDesk}
 use Rattle.model.specs.Desk.{withoutEntries}
 use Rattle.model.specs.Ask.{requests, asked}
 use Rattle.model.specs.Leave.{handOn, handOns, left}
 use Rattle.model.proofs.Tables.{at-same}
-use Rattle.model.proofs.Machine.{systemOf, rowOf, sentOf, rigOf, Sized, rig-path, sites-path, update-self, map-append, otherRow}
+use Rattle.model.proofs.Machine.{askIn, systemOf, rowOf, sentOf, rigOf, Sized, rig-path, sites-path, update-self, map-append, otherRow}
 use Rattle.model.proofs.SiteDelivered.{of-site, columns}
 
-requests-same : (t : Tables) (s seq n : ℕ) → map sentOf (requests (deskOf t s) seq n) ≡ R.inOrder (R.requests (systemOf t) s seq) n
+requests-same : (t : Tables) (s seq n : ℕ) → map sentOf (requests (deskOf t s) seq n) ≡ R.inOrder (R.requests (systemOf t) s (askWith seq)) n
 unfolding requests deskOf R.inOrder R.sentBy
 requests-same t s seq zero = refl
 requests-same t s seq (suc i) =
@@ -52,5 +53,5 @@ module _ (t : Tables) (z : Sized t) (s : ℕ) (lo : 1 ≤ s) (hi : s ≤ siteLim
   unfolding left R.left deskOf
   leave-same e =
       of-site t z s lo hi (left (deskOf t s) .desk) (ms ++ left (deskOf t s) .sent) (record { arbiter = refl; queued = refl })
-      ∙ rig-path (sites-path refl (update-self _ s _ (ap seqIn e)) (update-self _ s _ (ap failedIn e))) (update-self _ s _ refl) (fun-ext cleared)
+      ∙ rig-path (sites-path refl (update-self _ s _ (ap askIn e)) (update-self _ s _ (ap failedIn e))) (update-self _ s _ refl) (fun-ext cleared)
       (map-append sentOf ms _ ∙ rw (handOns-same t s ms (sizeOf t)))

@@ -193,10 +193,10 @@ module _ (t : Tables) (z : Sized t) (b : ℕ) (lo : 1 ≤ b) (hi : b ≤ siteLim
     unfolding S.onFail S.yielded mustYield deskOf cell
     sent-seen i = by-bool (mustYield (deskOf t b) i) (λ m. rw (waits, m)) (λ m. rw (waits, m))
 
-    waiting-fails : (j : ℕ)
-        → rigOf (withDesk t b (onFail (deskOf t b) .desk)) (rest ++ onFail (deskOf t b) .sent) ≡ R.delivered (systemOf t) (rigOf t ms) (map sentOf rest) j (M.fail b)
+    waiting-fails : (j x : ℕ)
+        → rigOf (withDesk t b (onFail (deskOf t b) .desk)) (rest ++ onFail (deskOf t b) .sent) ≡ R.delivered (systemOf t) (rigOf t ms) (map sentOf rest) j (M.fail b x)
     unfolding onFail R.delivered deskOf failedSet
-    waiting-fails j =
+    waiting-fails j x =
         let y = all-yielded in
         rw (w, waits)
         (of-site t z b lo hi (after .desk) (rest ++ after .sent) (record { arbiter = y .arbiter; queued = y .queued })
@@ -206,10 +206,10 @@ module _ (t : Tables) (z : Sized t) (b : ℕ) (lo : 1 ≤ b) (hi : b ≤ siteLim
         (fun-ext row-seen)
         (map-append sentOf rest (after .sent) ∙ rw (y .sent) (ap (λ (x : List R.Sent). map sentOf rest ++ x) (in-order-same _ _ (sizeOf t) (λ i l h. sent-seen i)))))
 
-  pub fail-delivered : (j : ℕ)
-      → rigOf (withDesk t b (onFail (deskOf t b) .desk)) (rest ++ onFail (deskOf t b) .sent) ≡ R.delivered (systemOf t) (rigOf t ms) (map sentOf rest) j (M.fail b)
+  pub fail-delivered : (j x : ℕ)
+      → rigOf (withDesk t b (onFail (deskOf t b) .desk)) (rest ++ onFail (deskOf t b) .sent) ≡ R.delivered (systemOf t) (rigOf t ms) (map sentOf rest) j (M.fail b x)
   unfolding onFail R.delivered S.onFail deskOf R.sentBy
-  fail-delivered j =
+  fail-delivered j x =
       by-bool (isWaiting (modeOf t b))
-      (λ w. waiting-fails w j)
+      (λ w. waiting-fails w j x)
       (λ w. rw (w, waits-same (modeOf t b), w) (nothing t z b lo hi rest j ∙ rig-path refl refl (update-self _ j _ refl) (rw (each-none (sizeOf t)))))

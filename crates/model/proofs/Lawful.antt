@@ -12,6 +12,7 @@ use lib.Seq.{length-take-le, getD-take, getD-append-add}
 use lib.Pow.{pow-pos, pow-mono}
 use borrow.Author.Tests.{eqb-true, eqb-false, eq-eqb, ltb-true, ltb-false, lt-ltb, le-ltb, not-true}
 use Rattle.rig.specs.Limits.{siteLimit}
+use Rattle.protocol.specs.Ask.{Ask}
 use Rattle.protocol.specs.System.{System, Lawful}
 use Rattle.model.specs.Tables.{at}
 use Rattle.basics.specs.Helpers.{any}
@@ -24,43 +25,50 @@ use Rattle.model.proofs.Sets.{no-bits, names-below}
 use Rattle.model.proofs.Setup.{Accepted}
 
 -- document 01's priority, as the machine takes it
-abbrev pub before : ℕ → ℕ → ℕ → ℕ → Bool
-before s k n l = comesBefore (key s k) (key n l)
+abbrev pub before : Ask → ℕ → Ask → ℕ → Bool
+before a k b l = comesBefore (key a.number k) (key b.number l)
+
+-- "`number` is 0 in a fail"
+abbrev pub told : Ask → ℕ
+told a = 0
+
+pub told-below : (a : Ask) → told a ≤ a.number
+told-below a = omega arith
 
 -- a strict order, total on the asks of different sites
-pub before-irrefl : (s k : ℕ) → before s k s k ≡ false
+pub before-irrefl : (a : Ask) (k : ℕ) → before a k a k ≡ false
 unfolding comesBefore
-before-irrefl s k = rw (eq-eqb s s refl) (le-ltb k k (omega arith))
+before-irrefl a k = rw (eq-eqb a.number a.number refl) (le-ltb k k (omega arith))
 
 -- as a fact of numbers
-earlier : (s k n l : ℕ) → before s k n l ≡ true → (s ≤ n) × (s ≡ n → k < l)
+earlier : (s k n l : ℕ) → comesBefore (key s k) (key n l) ≡ true → (s ≤ n) × (s ≡ n → k < l)
 unfolding comesBefore
 earlier s k n l e =
     by-bool (eqb s n)
     (λ q. let a = eqb-true s n q in let b = ltb-true k l (rw q at e) in (omega arith, λ w. b))
     (λ q. let a = eqb-false s n q in let b = ltb-true s n (rw q at e) in (omega arith, λ w. absurd (a w)))
 
-is-earlier : (s k n l : ℕ) → s ≤ n → (s ≡ n → k < l) → before s k n l ≡ true
+is-earlier : (s k n l : ℕ) → s ≤ n → (s ≡ n → k < l) → comesBefore (key s k) (key n l) ≡ true
 unfolding comesBefore
 is-earlier s k n l a b =
     by-bool (eqb s n)
     (λ q. rw q (lt-ltb k l (b (eqb-true s n q))))
     (λ q. let ne = eqb-false s n q in rw q (lt-ltb s n (omega arith)))
 
-pub before-trans : (a x b y c z : ℕ) → before a x b y ≡ true → before b y c z ≡ true → before a x c z ≡ true
+pub before-trans : (a : Ask) (x : ℕ) (b : Ask) (y : ℕ) (c : Ask) (z : ℕ) → before a x b y ≡ true → before b y c z ≡ true → before a x c z ≡ true
 before-trans a x b y c z e f =
-    let p = earlier a x b y e in
-    let q = earlier b y c z f in
+    let p = earlier a.number x b.number y e in
+    let q = earlier b.number y c.number z f in
     let p0 = p .0 in
     let q0 = q .0 in
-    is-earlier a x c z (omega arith) (λ w. let u = p .1 (omega arith) in let v = q .1 (omega arith) in omega arith)
+    is-earlier a.number x c.number z (omega arith) (λ w. let u = p .1 (omega arith) in let v = q .1 (omega arith) in omega arith)
 
-pub before-total : (a x b y : ℕ) → x ≢ y → before a x b y ≡ false → before b y a x ≡ true
+pub before-total : (a : Ask) (x : ℕ) (b : Ask) (y : ℕ) → x ≢ y → before a x b y ≡ false → before b y a x ≡ true
 unfolding comesBefore
 before-total a x b y ne e =
-    by-bool (eqb a b)
-    (λ q. let w = eqb-true a b q in let u = ltb-false x y (rw q at e) in is-earlier b y a x (omega arith) (λ v. omega arith))
-    (λ q. let w = eqb-false a b q in let u = ltb-false a b (rw q at e) in is-earlier b y a x (omega arith) (λ v. absurd (w (omega arith))))
+    by-bool (eqb a.number b.number)
+    (λ q. let w = eqb-true a.number b.number q in let u = ltb-false x y (rw q at e) in is-earlier b.number y a.number x (omega arith) (λ v. omega arith))
+    (λ q. let w = eqb-false a.number b.number q in let u = ltb-false a.number b.number (rw q at e) in is-earlier b.number y a.number x (omega arith) (λ v. absurd (w (omega arith))))
 
 -- members of a set that names sites 1 to n only
 pub member-within : (n s j : ℕ) → s < 2 ^ n → member s j ≡ true → (1 ≤ j) × (j ≤ n)
@@ -91,7 +99,7 @@ has-one n s e =
 
 -- the family of n sites with the sets l
 abbrev pub systemFrom : ℕ → List ℕ → System
-systemFrom n l = record { size = n; sets = λ k j. member (at 0 l k) j; comesBefore = before }
+systemFrom n l = record { size = n; sets = λ k j. member (at 0 l k) j; comesBefore = before; told = told }
 
 module _ (n : ℕ) (l : List ℕ) (a : Accepted n l) (past : (k : ℕ) → n < k → at 0 l k ≡ 0) where
   name-at : (k : ℕ) → 1 ≤ k → k ≤ n → names n (at 0 l k) ≡ true

@@ -18,6 +18,7 @@ use Rattle.rig.specs.declared.Site.{Site}
 use Rattle.rig.specs.Limits.{siteLimit}
 use Rattle.rig.specs.Messages.{REQUEST, REPLY, RELEASE, INQUIRE, FAIL, YIELD}
 use Rattle.basics.specs.Helpers.{update}
+use Rattle.protocol.specs.Ask.{Ask, askWith}
 use Rattle.protocol.specs.Message as M
 use Rattle.protocol.specs.Local.{Local}
 use Rattle.protocol.specs.System.{System}
@@ -26,25 +27,29 @@ use Rattle.model.specs.Tables.{at, cell}
 use Rattle.model.specs.State.{Tables, isResting, isWaiting, isInside, seqIn, failedIn, sizeOf, setsOf, hasMember, siteOf, modeOf, arbiterOf, heldOf, heirOf, inquiredOf, queuedOf, deskOf, withDesk}
 use Rattle.basics.proofs.Basics.{by-bool}
 use Rattle.model.proofs.Tables.{at-put, at-put-same, at-put-other, cell-put, length-put, Square, square-put}
-use Rattle.model.proofs.Lawful.{before}
+use Rattle.model.proofs.Lawful.{before, told}
 
 abbrev pub modeNumber : Mode → ℕ
 modeNumber Rest = 0
 modeNumber (Waiting s f) = 1
 modeNumber Inside = 2
 
+-- the ask of a site in that mode
+abbrev pub askIn : Mode → Ask
+askIn m = askWith (seqIn m)
+
 abbrev pub systemOf : Tables → System
-systemOf t = record { size = sizeOf t; sets = λ k j. hasMember (setsOf t) k j; comesBefore = before }
+systemOf t = record { size = sizeOf t; sets = λ k j. hasMember (setsOf t) k j; comesBefore = before; told = told }
 
 abbrev pub sitesOf : Tables → R.Sites
-sitesOf t = record { mode = λ k. modeNumber (modeOf t k); seq = λ k. seqIn (modeOf t k); failed = λ k. failedIn (modeOf t k) }
+sitesOf t = record { mode = λ k. modeNumber (modeOf t k); ask = λ k. askIn (modeOf t k); failed = λ k. failedIn (modeOf t k) }
 
 abbrev pub rowOf : Tables → ℕ → R.Row
 rowOf t j = record {
   grant = arbiterOf t j .grant;
   holder = arbiterOf t j .holder;
-  holderSeq = arbiterOf t j .seq;
-  queued = λ k. queuedOf t j k;
+  holderAsk = askWith (arbiterOf t j .seq);
+  queued = λ k. askWith (queuedOf t j k);
   held = λ k. heldOf t k j;
   heir = λ k. heirOf t k j;
   inquired = λ k. inquiredOf t k j;
@@ -53,11 +58,11 @@ rowOf t j = record {
 -- a message with the arbiter that it belongs to: a release that names an heir is a hand-over
 abbrev pub sentOf : Message → R.Sent
 sentOf m =
-    cond (eqb (m .kind) REQUEST) (R.sent (m .to) (M.request (m .from) (m .number)))
+    cond (eqb (m .kind) REQUEST) (R.sent (m .to) (M.request (m .from) (askWith (m .number))))
     (cond (eqb (m .kind) REPLY) (R.sent (m .about) (M.reply (m .from) (m .to) (m .number)))
     (cond (eqb (m .kind) RELEASE) (R.sent (m .to) (cond (eqb (m .about) 0) (M.release (m .from) (m .number)) (M.handOver (m .from) (m .about) (m .number))))
     (cond (eqb (m .kind) INQUIRE) (R.sent (m .from) (M.inquire (m .to) (m .number)))
-    (cond (eqb (m .kind) FAIL) (R.sent (m .from) (M.fail (m .to)))
+    (cond (eqb (m .kind) FAIL) (R.sent (m .from) (M.fail (m .to) (m .number)))
     (cond (eqb (m .kind) YIELD) (R.sent (m .to) (M.yield (m .from) (m .number)))
     (R.sent (m .from) (M.transfer (m .to) (m .about) (m .number))))))))
 
@@ -126,14 +131,14 @@ pub rig-path : {s s′ : R.Sites} {c c′ : ℕ → ℕ} {r r′ : ℕ → R.Row
     → _≡_ {A = R.Rig} (record { sites = s; clock = c; rows = r; underWay = m }) (record { sites = s′; clock = c′; rows = r′; underWay = m′ })
 rig-path p q u v = λ i. record { sites = p i; clock = q i; rows = u i; underWay = v i }
 
-pub sites-path : {m m′ n n′ : ℕ → ℕ} {f f′ : ℕ → Bool} → m ≡ m′ → n ≡ n′ → f ≡ f′
-    → _≡_ {A = R.Sites} (record { mode = m; seq = n; failed = f }) (record { mode = m′; seq = n′; failed = f′ })
-sites-path p q u = λ i. record { mode = p i; seq = q i; failed = u i }
+pub sites-path : {m m′ : ℕ → ℕ} {n n′ : ℕ → Ask} {f f′ : ℕ → Bool} → m ≡ m′ → n ≡ n′ → f ≡ f′
+    → _≡_ {A = R.Sites} (record { mode = m; ask = n; failed = f }) (record { mode = m′; ask = n′; failed = f′ })
+sites-path p q u = λ i. record { mode = p i; ask = q i; failed = u i }
 
 -- one row, from what the tables say
 pub row-path : (t : Tables) (j : ℕ) (a : Arbiter) (q he hr iq : ℕ → ℕ) → arbiterOf t j ≡ a → ((k : ℕ) → queuedOf t j k ≡ q k) → ((k : ℕ) → heldOf t k j ≡ he k) → ((k : ℕ) → heirOf t k j ≡ hr k) → ((k : ℕ) → inquiredOf t k j ≡ iq k)
-    → rowOf t j ≡ record { grant = a .grant; holder = a .holder; holderSeq = a .seq; queued = q; held = he; heir = hr; inquired = iq }
-row-path t j a q he hr iq pa pq ph pr pi = λ i. record { grant = pa i .grant; holder = pa i .holder; holderSeq = pa i .seq; queued = λ k. pq k i; held = λ k. ph k i; heir = λ k. pr k i; inquired = λ k. pi k i }
+    → rowOf t j ≡ record { grant = a .grant; holder = a .holder; holderAsk = askWith (a .seq); queued = λ k. askWith (q k); held = he; heir = hr; inquired = iq }
+row-path t j a q he hr iq pa pq ph pr pi = λ i. record { grant = pa i .grant; holder = pa i .holder; holderAsk = askWith (pa i .seq); queued = λ k. askWith (pq k i); held = λ k. ph k i; heir = λ k. pr k i; inquired = λ k. pi k i }
 
 pub update-self : {A : Type 0} (f : ℕ → A) (b : ℕ) (v : A) → f b ≡ v → update f b v ≡ f
 unfolding update
@@ -147,7 +152,7 @@ map-append f (x ∷ xs) ys = rw (map-append f xs ys)
 
 -- the sites' part
 abbrev pub sitesWith : Tables → ℕ → Mode → R.Sites
-sitesWith t b m = record { mode = update (λ k. modeNumber (modeOf t k)) b (modeNumber m); seq = update (λ k. seqIn (modeOf t k)) b (seqIn m); failed = update (λ k. failedIn (modeOf t k)) b (failedIn m) }
+sitesWith t b m = record { mode = update (λ k. modeNumber (modeOf t k)) b (modeNumber m); ask = update (λ k. askIn (modeOf t k)) b (askIn m); failed = update (λ k. failedIn (modeOf t k)) b (failedIn m) }
 
 abbrev pub clockWith : Tables → ℕ → ℕ → ℕ → ℕ
 clockWith t b c = update (λ k. siteOf t k .clock) b c
@@ -157,8 +162,8 @@ abbrev pub otherRow : Tables → ℕ → Desk → ℕ → R.Row
 otherRow t b d j = record {
   grant = arbiterOf t j .grant;
   holder = arbiterOf t j .holder;
-  holderSeq = arbiterOf t j .seq;
-  queued = λ k. queuedOf t j k;
+  holderAsk = askWith (arbiterOf t j .seq);
+  queued = λ k. askWith (queuedOf t j k);
   held = update (λ k. heldOf t k j) b (at 0 (d .held) j);
   heir = update (λ k. heirOf t k j) b (at 0 (d .heir) j);
   inquired = update (λ k. inquiredOf t k j) b (at 0 (d .inquired) j);
@@ -168,8 +173,8 @@ abbrev pub ownRow : Tables → ℕ → Desk → R.Row
 ownRow t b d = record {
   grant = d .arbiter .grant;
   holder = d .arbiter .holder;
-  holderSeq = d .arbiter .seq;
-  queued = λ k. at 0 (d .queued) k;
+  holderAsk = askWith (d .arbiter .seq);
+  queued = λ k. askWith (at 0 (d .queued) k);
   held = update (λ k. heldOf t k b) b (at 0 (d .held) b);
   heir = update (λ k. heirOf t k b) b (at 0 (d .heir) b);
   inquired = update (λ k. inquiredOf t k b) b (at 0 (d .inquired) b);
@@ -206,7 +211,7 @@ module _ (t : Tables) (z : Sized t) (b : ℕ) (lo : 1 ≤ b) (hi : b ≤ siteLim
       → rigOf (withDesk t b d) ms ≡ record { sites = sitesWith t b (d .site .mode); clock = clockWith t b (d .site .clock); rows = rows; underWay = map sentOf ms }
   rig-with rows ms other own =
       rig-path
-      (sites-path (site-with (λ (x : Site). modeNumber (x .mode))) (site-with (λ (x : Site). seqIn (x .mode))) (site-with (λ (x : Site). failedIn (x .mode))))
+      (sites-path (site-with (λ (x : Site). modeNumber (x .mode))) (site-with (λ (x : Site). askIn (x .mode))) (site-with (λ (x : Site). failedIn (x .mode))))
       (site-with (λ (x : Site). x .clock))
       (fun-ext (λ j. by-bool (eqb j b)
       (λ e. let q = eqb-true j b e in rw q (row-own ∙ own))

@@ -24,12 +24,12 @@ use Rattle.model.proofs.Machine.{sentOf}
 
 -- the message of document 01 that a message of the machine stands for
 abbrev pub wireOf : ℕ → M.Message → Message
-wireOf j (M.request k n) = request k j n
+wireOf j (M.request k a) = request k j a.number
 wireOf j (M.reply f k n) = reply f k j n
 wireOf j (M.release k n) = release k j 0 n
 wireOf j (M.handOver k x n) = release k j x n
 wireOf j (M.inquire k n) = inquire j k n
-wireOf j (M.fail k) = fail j k
+wireOf j (M.fail k n) = fail j k
 wireOf j (M.yield k n) = yield k j n
 wireOf j (M.transfer k x n) = transfer j k x n
 

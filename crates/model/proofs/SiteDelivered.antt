@@ -15,6 +15,7 @@ use Rattle.rig.specs.declared.Mode.{Mode}
 use Rattle.rig.specs.declared.Mode.the-variants.{Rest, Waiting, Inside}
 use Rattle.rig.specs.Limits.{siteLimit}
 use Rattle.basics.specs.Helpers.{update}
+use Rattle.protocol.specs.Ask.{askWith}
 use Rattle.protocol.specs.Message as M
 use Rattle.protocol.specs.Local as P
 use Rattle.protocol.specs.Site as S
@@ -62,11 +63,11 @@ module _ (t : Tables) (z : Sized t) (b : ℕ) (lo : 1 ≤ b) (hi : b ≤ siteLim
           let x = update-self (λ k. heldOf t k i) b (heldFor u i) (sym (eh i ne)) in
           let y = update-self (λ k. heirOf t k i) b (heirFor u i) (sym (er i ne)) in
           let w = update-self (λ k. inquiredOf t k i) b (inquiredFor u i) (sym (ei i ne)) in
-          λ s. record { grant = arbiterOf t i .grant; holder = arbiterOf t i .holder; holderSeq = arbiterOf t i .seq; queued = λ k. queuedOf t i k; held = x s; heir = y s; inquired = w s }
+          λ s. record { grant = arbiterOf t i .grant; holder = arbiterOf t i .holder; holderAsk = askWith (arbiterOf t i .seq); queued = λ k. askWith (queuedOf t i k); held = x s; heir = y s; inquired = w s }
 
   -- three columns, each by its equation
   pub columns : (j : ℕ) {he he′ hr hr′ iq iq′ : ℕ → ℕ} → he ≡ he′ → hr ≡ hr′ → iq ≡ iq′ → R.rowOf (P.withEntries (localAt t j) he hr iq) ≡ R.rowOf (P.withEntries (localAt t j) he′ hr′ iq′)
-  columns j x y w = λ s. record { grant = arbiterOf t j .grant; holder = arbiterOf t j .holder; holderSeq = arbiterOf t j .seq; queued = λ k. queuedOf t j k; held = x s; heir = y s; inquired = w s }
+  columns j x y w = λ s. record { grant = arbiterOf t j .grant; holder = arbiterOf t j .holder; holderAsk = askWith (arbiterOf t j .seq); queued = λ k. askWith (queuedOf t j k); held = x s; heir = y s; inquired = w s }
 
   module _ (rest : List Message) (j : ℕ) where
     -- the rig where only the entries for member j change

@@ -25,11 +25,11 @@ use Rattle.protocol.proofs.RigKept as K
 use Rattle.protocol.proofs.Demand3 as D
 use Rattle.model.specs.Tables.{at, cell}
 use Rattle.model.specs.Setup.{setupCode, restingSite, freeArbiter, keptSets, freshRig}
-use Rattle.model.specs.State.{isWaiting, isInside, seqIn, failedIn, sizeOf, modeOf, freshTables, Stored, underWay}
+use Rattle.model.specs.State.{isWaiting, isInside, failedIn, sizeOf, modeOf, freshTables, Stored, underWay}
 use Rattle.model.specs.Run.{fresh, run, freeAt, isOut, heldAt, isBack, places, insideCount, waitingCount, stuck, Sound, Demand3}
 use Rattle.model.proofs.Tables.{at-same, Square}
 use Rattle.model.proofs.Setup.{Accepted, accepts}
-use Rattle.model.proofs.Machine.{modeNumber, sentOf, rigOf, waits-same, inside-same, rig-path, sites-path, row-path}
+use Rattle.model.proofs.Machine.{modeNumber, askIn, sentOf, rigOf, waits-same, inside-same, rig-path, sites-path, row-path}
 use Rattle.model.proofs.Lawful.{systemFrom, lawful, kept-past, kept-accepted}
 use Rattle.model.proofs.Delivered.{by-kind}
 use Rattle.model.proofs.Reached.{Reached, run-reached}
@@ -63,7 +63,7 @@ fresh-same n sets =
     rig-path
     (sites-path
     (fun-ext (λ k. ap (λ (x : Site). modeNumber (x .mode)) (at-same restingSite siteLimit k)))
-    (fun-ext (λ k. ap (λ (x : Site). seqIn (x .mode)) (at-same restingSite siteLimit k)))
+    (fun-ext (λ k. ap (λ (x : Site). askIn (x .mode)) (at-same restingSite siteLimit k)))
     (fun-ext (λ k. ap (λ (x : Site). failedIn (x .mode)) (at-same restingSite siteLimit k))))
     (fun-ext (λ k. ap (λ (x : Site). x .clock) (at-same restingSite siteLimit k)))
     (fun-ext (λ j. row-path (freshTables n sets) j freeArbiter (λ k. 0) (λ k. 0) (λ k. 0) (λ k. 0) (at-same freeArbiter siteLimit j) (λ k. blank-cell j k) (λ k. blank-cell k j) (λ k. blank-cell k j) (λ k. blank-cell k j)))

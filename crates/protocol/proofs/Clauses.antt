@@ -7,6 +7,7 @@ use mathlib.Core.Logic.{_⊎_, _≢_}
 use mathlib.Core.Bool.{Bool, true, false, not, _&&_, _||_, cond}
 use lib.Dec.{eqb}
 use Rattle.basics.specs.Helpers.{count, tally}
+use Rattle.protocol.specs.Ask.{noAsk}
 use Rattle.protocol.specs.Message.{Message, request, reply, release, handOver, inquire, fail, yield, transfer, REPLY, RELEASE, HANDOVER, kind, isOut, isBack}
 use Rattle.protocol.specs.Setting.{Setting}
 use Rattle.protocol.specs.Local.{REST, WAITING, INSIDE, View}
@@ -35,25 +36,25 @@ module _ (p : Setting) where
 
   -- R1, T1, T4, T5, T8, T3 and T6, message by message, with the membership of every site named and the range of every number
   unfoldable pub FitsTables : View → Message → Type 0
-  FitsTables v (request k n) = (v.tables.mode k ≡ WAITING) × (v.tables.seq k ≡ n) × (1 ≤ n) × (p .member k ≡ true)
+  FitsTables v (request k a) = (v.tables.mode k ≡ WAITING) × (v.tables.ask k ≡ a) × (1 ≤ a.number) × (p .member k ≡ true)
   FitsTables v (reply f k n) =
-      (((k ≡ v.tables.holder) × (n ≡ v.tables.grant) × (v.tables.holderSeq ≡ v.tables.seq k))
-      ⊎ ((n ≡ suc v.tables.grant) × (v.tables.queued k ≡ v.tables.seq k) × HandOverTo v k))
+      (((k ≡ v.tables.holder) × (n ≡ v.tables.grant) × (v.tables.holderAsk ≡ v.tables.ask k))
+      ⊎ ((n ≡ suc v.tables.grant) × (v.tables.queued k ≡ v.tables.ask k) × HandOverTo v k))
       × (v.tables.mode k ≡ WAITING) × (1 ≤ n) × (p .member k ≡ true) × (1 ≤ f) × (f ≤ p .size) × (v.tables.held k ≡ 0)
   FitsTables v (release k n) =
-      (((k ≡ v.tables.holder) × (n ≡ v.tables.grant)) ⊎ ((n ≡ suc v.tables.grant) × (v.tables.queued k ≢ 0) × HandOverTo v k))
+      (((k ≡ v.tables.holder) × (n ≡ v.tables.grant)) ⊎ ((n ≡ suc v.tables.grant) × ((v.tables.queued k) .number ≢ 0) × HandOverTo v k))
       × (1 ≤ n) × (p .member k ≡ true)
   FitsTables v (handOver k x n) =
       (n ≤ v.tables.grant)
-      × (n ≡ v.tables.grant → v.tables.holder ≢ 0 → (k ≡ v.tables.holder) × (v.tables.queued x ≢ 0)
+      × (n ≡ v.tables.grant → v.tables.holder ≢ 0 → (k ≡ v.tables.holder) × ((v.tables.queued x) .number ≢ 0)
       × ((0 < tally (isReply x (suc v.tables.grant)) v.messages) ⊎ ((v.tables.held x ≡ suc v.tables.grant) ⊎ (0 < tally (isRelease x (suc v.tables.grant)) v.messages))))
       × (p .member k ≡ true) × (p .member x ≡ true) × (1 ≤ n)
   FitsTables v (inquire k n) = (1 ≤ n) × (n ≤ v.tables.grant) × (p .member k ≡ true)
-  FitsTables v (fail k) = p .member k ≡ true
+  FitsTables v (fail k n) = p .member k ≡ true
   FitsTables v (yield k n) =
-      (k ≡ v.tables.holder) × (n ≡ v.tables.grant) × (v.tables.mode k ≡ WAITING) × (v.tables.holderSeq ≡ v.tables.seq k) × (v.tables.failed k ≡ true) × (1 ≤ n) × (p .member k ≡ true)
+      (k ≡ v.tables.holder) × (n ≡ v.tables.grant) × (v.tables.mode k ≡ WAITING) × (v.tables.holderAsk ≡ v.tables.ask k) × (v.tables.failed k ≡ true) × (1 ≤ n) × (p .member k ≡ true)
   FitsTables v (transfer k x n) =
-      (1 ≤ n) × (n ≤ v.tables.grant) × (n ≡ v.tables.grant → v.tables.holder ≢ 0 → (k ≡ v.tables.holder) × (v.tables.queued x ≢ 0))
+      (1 ≤ n) × (n ≤ v.tables.grant) × (n ≡ v.tables.grant → v.tables.holder ≢ 0 → (k ≡ v.tables.holder) × ((v.tables.queued x) .number ≢ 0))
       × (p .member k ≡ true) × (p .member x ≡ true)
 
   pub record Clauses (v : View) : Type 0 where
@@ -64,31 +65,31 @@ module _ (p : Setting) where
     -- an inquire remembered beside a held number is of that number, and the site is not failed
     pub S4 : (k : ℕ) → v.tables.held k ≢ 0 → v.tables.inquired k ≢ 0 → (v.tables.inquired k ≡ v.tables.held k) × (v.tables.failed k ≡ false)
     -- no holder, no queue
-    pub A1 : v.tables.holder ≡ 0 → (k : ℕ) → v.tables.queued k ≡ 0
+    pub A1 : v.tables.holder ≡ 0 → (k : ℕ) → (v.tables.queued k) .number ≡ 0
     -- the holder is not queued
-    pub A2 : v.tables.queued v.tables.holder ≡ 0
+    pub A2 : v.tables.queued v.tables.holder ≡ noAsk
     -- exactly one place
     pub A3 : cond (eqb v.tables.holder 0) 1 0 + tally isOut v.messages + count (λ k. not (eqb (v.tables.held k) 0)) (p .size) + tally isBack v.messages ≡ 1
     -- every message fits
     pub T : All (FitsTables v) v.messages
     -- who holds is the holder with the grant number, or the heir of a hand-over not heard of, with the next number
-    pub T2 : (k : ℕ) → v.tables.held k ≢ 0 → (((k ≡ v.tables.holder) × (v.tables.held k ≡ v.tables.grant) × (v.tables.mode k ≡ WAITING → v.tables.holderSeq ≡ v.tables.seq k))
-        ⊎ ((v.tables.held k ≡ suc v.tables.grant) × (v.tables.queued k ≢ 0) × (v.tables.mode k ≡ WAITING → v.tables.queued k ≡ v.tables.seq k) × HandOverTo v k)) × (p .member k ≡ true)
+    pub T2 : (k : ℕ) → v.tables.held k ≢ 0 → (((k ≡ v.tables.holder) × (v.tables.held k ≡ v.tables.grant) × (v.tables.mode k ≡ WAITING → v.tables.holderAsk ≡ v.tables.ask k))
+        ⊎ ((v.tables.held k ≡ suc v.tables.grant) × ((v.tables.queued k) .number ≢ 0) × (v.tables.mode k ≡ WAITING → v.tables.queued k ≡ v.tables.ask k) × HandOverTo v k)) × (p .member k ≡ true)
     -- an heir stands at the holder, which holds the grant number, and is queued; both have the arbiter in their set
-    pub T7 : (k : ℕ) → v.tables.heir k ≢ 0 → (k ≡ v.tables.holder) × (v.tables.held k ≡ v.tables.grant) × (v.tables.queued (v.tables.heir k) ≢ 0) × (p .member k ≡ true) × (p .member (v.tables.heir k) ≡ true)
+    pub T7 : (k : ℕ) → v.tables.heir k ≢ 0 → (k ≡ v.tables.holder) × (v.tables.held k ≡ v.tables.grant) × ((v.tables.queued (v.tables.heir k)) .number ≢ 0) × (p .member k ≡ true) × (p .member (v.tables.heir k) ≡ true)
     -- a remembered number is no later than the grant number; only a waiting member remembers one
     pub T8 : (k : ℕ) → v.tables.inquired k ≢ 0 → (v.tables.inquired k ≤ v.tables.grant) × (p .member k ≡ true) × (v.tables.mode k ≡ WAITING)
     -- at most one request of a site
     pub R1 : (k : ℕ) → tally (isRequestOf k) v.messages ≤ 1
     -- no request before a release or yield of the same site
     pub R2 : Ordered v.messages
-    -- a waiting site without a request under way is the holder or queued, with its current number
+    -- a waiting site without a request under way is the holder or queued, with its current ask
     pub R3 : (k : ℕ) → v.tables.mode k ≡ WAITING → p .member k ≡ true → tally (isRequestOf k) v.messages ≡ 0
-        → ((v.tables.holder ≡ k) × (v.tables.holderSeq ≡ v.tables.seq k) × (v.tables.queued k ≡ 0) × (tally (isAnyRelease k v.tables.grant) v.messages ≡ 0))
-        ⊎ ((v.tables.holder ≢ k) × (v.tables.queued k ≡ v.tables.seq k) × (tally (isRelease k (suc v.tables.grant)) v.messages ≡ 0))
+        → ((v.tables.holder ≡ k) × (v.tables.holderAsk ≡ v.tables.ask k) × ((v.tables.queued k) .number ≡ 0) × (tally (isAnyRelease k v.tables.grant) v.messages ≡ 0))
+        ⊎ ((v.tables.holder ≢ k) × (v.tables.queued k ≡ v.tables.ask k) × (tally (isRelease k (suc v.tables.grant)) v.messages ≡ 0))
     -- any other site that is queued or the holder has released
     pub R4 : (k : ℕ) → p .member k ≡ true → (v.tables.mode k ≡ REST) ⊎ ((v.tables.mode k ≡ WAITING) × (0 < tally (isRequestOf k) v.messages))
-        → (v.tables.queued k ≢ 0 → 0 < tally (isRelease k (suc v.tables.grant)) v.messages) × (v.tables.holder ≡ k → 0 < tally (isAnyRelease k v.tables.grant) v.messages)
+        → ((v.tables.queued k) .number ≢ 0 → 0 < tally (isRelease k (suc v.tables.grant)) v.messages) × (v.tables.holder ≡ k → 0 < tally (isAnyRelease k v.tables.grant) v.messages)
     -- a queued site that has not been failed is the head and comes before the holder
     pub L1 : (k : ℕ) → v.tables.mode k ≡ WAITING → p .member k ≡ true → tally (isRequestOf k) v.messages ≡ 0 → v.tables.holder ≢ k → tally (isReplyTo k) v.messages ≡ 0 → v.tables.held k ≡ 0
         → v.tables.failed k ≡ false → tally (isFailTo k) v.messages ≡ 0 → (headOf p v.tables.queued ≡ k) × (beforeHolder p v.tables k ≡ true)
@@ -99,19 +100,19 @@ module _ (p : Setting) where
     -- inquires arrive in order of number
     pub L3 : (k : ℕ) → Ascending k (v.tables.inquired k) v.messages
     -- the ranges and ties of document 01: of the holder, of a queued site, of a waiting and of another site
-    pub holderRange : (v.tables.holder ≢ 0 → (1 ≤ v.tables.holderSeq) × (1 ≤ v.tables.grant) × (p .member v.tables.holder ≡ true)) × (v.tables.holder ≡ 0 → v.tables.holderSeq ≡ 0)
-    pub queuedMember : (k : ℕ) → v.tables.queued k ≢ 0 → p .member k ≡ true
-    pub waitingNumbered : (k : ℕ) → v.tables.mode k ≡ WAITING → 1 ≤ v.tables.seq k
-    pub notWaitingClear : (k : ℕ) → v.tables.mode k ≢ WAITING → (v.tables.seq k ≡ 0) × (v.tables.failed k ≡ false)
+    pub holderRange : (v.tables.holder ≢ 0 → (1 ≤ v.tables.holderAsk.number) × (1 ≤ v.tables.grant) × (p .member v.tables.holder ≡ true)) × (v.tables.holder ≡ 0 → v.tables.holderAsk ≡ noAsk)
+    pub queuedMember : (k : ℕ) → (v.tables.queued k) .number ≢ 0 → p .member k ≡ true
+    pub waitingNumbered : (k : ℕ) → v.tables.mode k ≡ WAITING → 1 ≤ (v.tables.ask k) .number
+    pub notWaitingClear : (k : ℕ) → v.tables.mode k ≢ WAITING → (v.tables.ask k ≡ noAsk) × (v.tables.failed k ≡ false)
 
   -- every message is from or to a site that has the arbiter in its set
   pub fits-member : (v : View) (m : Message) → FitsTables v m → p .member (siteOf m) ≡ true
   unfolding FitsTables
-  fits-member v (request k n) f = f .3
+  fits-member v (request k a) f = f .3
   fits-member v (reply u k n) f = f .3
   fits-member v (release k n) f = f .2
   fits-member v (handOver k x n) f = f .2
   fits-member v (inquire k n) f = f .2
-  fits-member v (fail k) f = f
+  fits-member v (fail k n) f = f
   fits-member v (yield k n) f = f .6
   fits-member v (transfer k x n) f = f .3

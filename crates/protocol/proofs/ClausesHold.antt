@@ -14,6 +14,7 @@ use Rattle.protocol.specs.Local.{REST, WAITING, INSIDE, Local, View, vie
 use Rattle.protocol.specs.Arbiter.{headOf, beforeHolder}
 use Rattle.basics.proofs.Basics.{by-bool, and-split, count-none, count-one}
 use Rattle.basics.proofs.Lists.{all-map, all-some, all-none, tally-mono}
+use Rattle.protocol.proofs.Asks.{same-number}
 use Rattle.protocol.proofs.Invariant.{Ghost, FREE, OUT, HELD, YIELDED, RELEASED, siteOf, numberOf, heirOf, carriesPermission, isRequestOf, isHandOver, isFailTo, isInquire, Situation, situation, Fits, Core, InvariantWith, Invariant}
 use Rattle.protocol.proofs.Fitting.{fits-permission, permission-replied, permission-released, fits-handOver, no-request}
 use Rattle.protocol.proofs.Kept.Granted.{queued-member}
@@ -132,7 +133,7 @@ module _ (p : Setting) (law : SettingLaw p) where
     -- R1, T1, T3 to T6, T8: each message
     fits : (m : Message) → Fits p (situation t o.owner o.ahead o.stage) m → FitsTables p v m
     unfolding Fits FitsTables v
-    fits (request k n) a = (a .0, a .1, let w = c .asks .waitingNumbered k (a .0) in let y = a .1 in omega arith, a .2)
+    fits (request k n) a = (a .0, a .1, let w = c .asks .waitingNumbered k (a .0) in let y = same-number (a .1) in omega arith, a .2)
     fits (reply f k n) a =
         let s0 : o.stage ≢ FREE = (λ z. let y = a .2 in omega arith) in
         let busy = c .arbiter .whenTaken s0 in
@@ -171,7 +172,7 @@ module _ (p : Setting) (law : SettingLaw p) where
       a .4,
     )
     fits (inquire k n) a = a
-    fits (fail k) a = a
+    fits (fail k n) a = a
     fits (yield k n) a =
         let y = c .asks .yieldedFailed (a .2) in
         let busy = c .arbiter .whenTaken (λ z. let y = a .2 in omega arith) in
@@ -224,8 +225,8 @@ module _ (p : Setting) (law : SettingLaw p) where
         let nu : t.held k ≡ t.grant + o.ahead = rw (y .0) (c .column .number (y .1)) in omega arith
 
     -- T2
-    holding : (k : ℕ) → t.held k ≢ 0 → (((k ≡ t.holder) × (t.held k ≡ t.grant) × (t.mode k ≡ WAITING → t.holderSeq ≡ t.seq k))
-        ⊎ ((t.held k ≡ suc t.grant) × (t.queued k ≢ 0) × (t.mode k ≡ WAITING → t.queued k ≡ t.seq k) × HandOverTo p v k)) × (p .member k ≡ true)
+    holding : (k : ℕ) → t.held k ≢ 0 → (((k ≡ t.holder) × (t.held k ≡ t.grant) × (t.mode k ≡ WAITING → t.holderAsk ≡ t.ask k))
+        ⊎ ((t.held k ≡ suc t.grant) × ((t.queued k) .number ≢ 0) × (t.mode k ≡ WAITING → t.queued k ≡ t.ask k) × HandOverTo p v k)) × (p .member k ≡ true)
     holding k h =
         let y = c .column .holds k h in
         let busy = c .arbiter .whenTaken (λ z. let w = y .1 in omega arith) in
@@ -239,7 +240,7 @@ module _ (p : Setting) (law : SettingLaw p) where
         )
 
     -- T7
-    inherits : (k : ℕ) → t.heir k ≢ 0 → (k ≡ t.holder) × (t.held k ≡ t.grant) × (t.queued (t.heir k) ≢ 0) × (p .member k ≡ true) × (p .member (t.heir k) ≡ true)
+    inherits : (k : ℕ) → t.heir k ≢ 0 → (k ≡ t.holder) × (t.held k ≡ t.grant) × ((t.queued (t.heir k)) .number ≢ 0) × (p .member k ≡ true) × (p .member (t.heir k) ≡ true)
     inherits k h =
         let y = c .column .heirs k h in
         let nu : t.held k ≡ t.grant + o.ahead = rw (y .0) (c .column .number (y .1)) in
@@ -260,11 +261,11 @@ module _ (p : Setting) (law : SettingLaw p) where
 
     -- a known site other than the owner is not the holder
     holder-not : (k : ℕ) → o.known k ≢ 0 → k ≢ o.owner → t.holder ≢ k
-    holder-not k kk ne z = let y = c .asks .queuedIfKnown k ne kk in let w = c .asks .waitingNumbered k (c .asks .knownWaits k kk .0) in let u : t.queued k ≡ 0 = rw z at (c .arbiter .holderNotQueued) in omega arith
+    holder-not k kk ne z = let y = same-number (c .asks .queuedIfKnown k ne kk) in let w = c .asks .waitingNumbered k (c .asks .knownWaits k kk .0) in let u : (t.queued k) .number ≡ 0 = rw z at (same-number (c .arbiter .holderNotQueued)) in omega arith
 
     -- R3
     asked-at : (k : ℕ) → t.mode k ≡ WAITING → p .member k ≡ true → tally (isRequestOf k) ms ≡ 0
-        → ((t.holder ≡ k) × (t.holderSeq ≡ t.seq k) × (t.queued k ≡ 0) × (tally (isAnyRelease k t.grant) ms ≡ 0)) ⊎ ((t.holder ≢ k) × (t.queued k ≡ t.seq k) × (tally (isRelease k (suc t.grant)) ms ≡ 0))
+        → ((t.holder ≡ k) × (t.holderAsk ≡ t.ask k) × ((t.queued k) .number ≡ 0) × (tally (isAnyRelease k t.grant) ms ≡ 0)) ⊎ ((t.holder ≢ k) × (t.queued k ≡ t.ask k) × (tally (isRelease k (suc t.grant)) ms ≡ 0))
     asked-at k m e z =
         let kk = asked-known k m e z in
         by-bool (eqb k o.owner)
@@ -276,7 +277,7 @@ module _ (p : Setting) (law : SettingLaw p) where
         inl (
           rw k1 (sym ho),
           rw k1 (c .asks .ownerEntry kw .0 d0),
-          ap t.queued (k1 ∙ ho) ∙ c .arbiter .holderNotQueued,
+          same-number (ap t.queued (k1 ∙ ho) ∙ c .arbiter .holderNotQueued),
           all-none _ (isAnyRelease k t.grant) ms (c .underWay .fit) (no-any-release (situation t o.owner o.ahead o.stage) k s4 d0),
         ))
         (λ d. let d0 = eqb-false o.ahead 0 d in
@@ -293,7 +294,7 @@ module _ (p : Setting) (law : SettingLaw p) where
         ))
 
     -- R4
-    not-asked : (k : ℕ) → p .member k ≡ true → o.known k ≡ 0 → t.mode k ≢ INSIDE → (t.queued k ≢ 0 → 0 < tally (isRelease k (suc t.grant)) ms) × (t.holder ≡ k → 0 < tally (isAnyRelease k t.grant) ms)
+    not-asked : (k : ℕ) → p .member k ≡ true → o.known k ≡ 0 → t.mode k ≢ INSIDE → ((t.queued k) .number ≢ 0 → 0 < tally (isRelease k (suc t.grant)) ms) × (t.holder ≡ k → 0 < tally (isAnyRelease k t.grant) ms)
     not-asked k e kz m =
         by-bool (eqb k o.owner)
         (λ ko. let k1 = eqb-true k o.owner ko in
@@ -308,13 +309,13 @@ module _ (p : Setting) (law : SettingLaw p) where
         let re = release-underWay s4 in
         rw k1 (by-bool (eqb o.ahead 0)
         (λ d. let d0 = eqb-true o.ahead 0 d in let gd : t.grant + o.ahead ≡ t.grant = omega arith in (
-          (λ y. absurd (y (ap t.queued (c .arbiter .ownerIsHolder d0) ∙ c .arbiter .holderNotQueued))),
+          (λ y. absurd (y (same-number (ap t.queued (c .arbiter .ownerIsHolder d0) ∙ c .arbiter .holderNotQueued)))),
           (λ y. let r1 = rw gd at re in let le = tally-mono _ (isRelease o.owner t.grant) (isAnyRelease o.owner t.grant) ms (c .underWay .fit) (λ m a e. release-any o.owner t.grant m e) in omega arith),
         ))
         (λ d. let d0 = eqb-false o.ahead 0 d in let d1 = ahead-one d0 in let gd : t.grant + o.ahead ≡ suc t.grant = omega arith in
         ((λ y. rw gd at re), (λ y. absurd (c .arbiter .handedOver d0 .2 (sym y)))))))
         (λ ko. let ne = eqb-false k o.owner ko in (
-          (λ y. absurd (y (c .asks .emptyIfUnknown k ne kz))),
+          (λ y. absurd (y (same-number (c .asks .emptyIfUnknown k ne kz)))),
           (λ y. let d0 : o.ahead ≢ 0 = (λ z. ne (sym y ∙ sym (c .arbiter .ownerIsHolder z))) in
               let h = c .underWay .handOvers d0 in
               let le = tally-mono _ (isHandOver t.holder o.owner t.grant) (isAnyRelease t.holder t.grant) ms (c .underWay .fit) (λ m a e. handOver-any t.holder o.owner t.grant m e) in

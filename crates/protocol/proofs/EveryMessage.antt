@@ -6,6 +6,7 @@ use mathlib.Core.List.{List, [], _∷_}
 use mathlib.Core.Option.{some}
 use native.Mathlib.Omega.{arith}
 use Rattle.basics.specs.Helpers.{tally, first, withoutFirst}
+use Rattle.protocol.specs.Ask.{noAsk}
 use Rattle.protocol.specs.Message.{Message, request, reply, release, handOver, inquire, fail, yield, transfer, between}
 use Rattle.protocol.specs.Setting.{Setting, SettingLaw}
 use Rattle.protocol.specs.Local.{Local, View, view}
@@ -25,7 +26,7 @@ use Rattle.protocol.proofs.Kept.Request.{onRequest-kept}
 
 -- the fresh state
 unfoldable pub freshView : View
-freshView = view (record { grant = 0; holder = 0; holderSeq = 0; queued = λ k. 0; mode = λ k. 0; seq = λ k. 0; failed = λ k. false; held = λ k. 0; heir = λ k. 0; inquired = λ k. 0 }) []
+freshView = view (record { grant = 0; holder = 0; holderAsk = noAsk; queued = λ k. noAsk; mode = λ k. 0; ask = λ k. noAsk; failed = λ k. false; held = λ k. 0; heir = λ k. 0; inquired = λ k. 0 }) []
 
 module _ (p : Setting) (law : SettingLaw p) where
   -- the message that is taken next may stand first
@@ -55,7 +56,7 @@ module _ (p : Setting) (law : SettingLaw p) where
   handled-kept t ms enters (release k n) v = onRelease-kept p law t k n ms v
   handled-kept t ms enters (handOver k x n) v = onHandOver-kept p law t k x n ms v
   handled-kept t ms enters (inquire k n) v = onInquire-kept p t k n ms v
-  handled-kept t ms enters (fail k) v = onFail-kept p t k ms v
+  handled-kept t ms enters (fail k n) v = onFail-kept p t k n ms v
   handled-kept t ms enters (yield k n) v = onYield-kept p law t k n ms v
   handled-kept t ms enters (transfer k x n) v = onTransfer-kept p law t k x n ms v
 

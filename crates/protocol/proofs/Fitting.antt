@@ -8,6 +8,7 @@ use native.Mathlib.Omega.{arith}
 use lib.Dec.{eqb}
 use borrow.Author.Tests.{eqb-true, eq-eqb}
 use Rattle.basics.specs.Helpers.{tally}
+use Rattle.protocol.specs.Ask.{Ask}
 use Rattle.protocol.specs.Message.{Message, request, reply, release, handOver, inquire, fail, yield, transfer, REPLY, RELEASE, YIELD, HANDOVER, kind}
 use Rattle.protocol.specs.Setting.{Setting}
 use Rattle.protocol.specs.Local.{WAITING, Local}
@@ -39,7 +40,7 @@ module _ (p : Setting) where
   fix t o ms b e s x y z c = rw (x, y, z) c
 
   module _ (s : Situation) where
-    -- R1: a request finds its site waiting, with that number
+    -- R1: a request finds its site waiting, with that ask
     pub fits-request : (k : ℕ) (m : Message) → Fits p s m → isRequestOf k m ≡ true → (s.mode k ≡ WAITING) × (p .member k ≡ true)
     unfolding Fits
     fits-request k (request i n) a e = rw (eqb-true k i e) (a .0, a .2)
@@ -47,7 +48,7 @@ module _ (p : Setting) where
     fits-request k (release i n) a e = clash false e refl
     fits-request k (handOver i x n) a e = clash false e refl
     fits-request k (inquire i n) a e = clash false e refl
-    fits-request k (fail i) a e = clash false e refl
+    fits-request k (fail i n) a e = clash false e refl
     fits-request k (yield i n) a e = clash false e refl
     fits-request k (transfer i x n) a e = clash false e refl
 
@@ -59,7 +60,7 @@ module _ (p : Setting) where
     fits-permission (release i n) a e = a
     fits-permission (handOver i x n) a e = clash false e refl
     fits-permission (inquire i n) a e = clash false e refl
-    fits-permission (fail i) a e = clash false e refl
+    fits-permission (fail i n) a e = clash false e refl
     fits-permission (yield i n) a e = a
     fits-permission (transfer i x n) a e = clash false e refl
 
@@ -87,7 +88,7 @@ module _ (p : Setting) where
     fits-handOver (release i n) a e z = clash false e refl
     fits-handOver (handOver i x n) a e z = a .1 z .2
     fits-handOver (inquire i n) a e z = clash false e refl
-    fits-handOver (fail i) a e z = clash false e refl
+    fits-handOver (fail i n) a e z = clash false e refl
     fits-handOver (yield i n) a e z = clash false e refl
     fits-handOver (transfer i x n) a e z = clash false e refl
 
@@ -99,18 +100,18 @@ module _ (p : Setting) where
     fits-inquire k (release i n) a e = clash false e refl
     fits-inquire k (handOver i x n) a e = clash false e refl
     fits-inquire k (inquire i n) a e = a .1
-    fits-inquire k (fail i) a e = clash false e refl
+    fits-inquire k (fail i n) a e = clash false e refl
     fits-inquire k (yield i n) a e = clash false e refl
     fits-inquire k (transfer i x n) a e = clash false e refl
 
     -- How a message fits after a change. Its request still finds the site; the permission it carries keeps owner, number and stage;
     -- grant numbers only grow; and what names the grant number of now is looked at anew.
     pub fits-change : (s′ : Situation) (m : Message)
-        → ((k : ℕ) → isRequestOf k m ≡ true → (s′.mode k ≡ s.mode k) × (s′.seq k ≡ s.seq k))
+        → ((k : ℕ) → isRequestOf k m ≡ true → (s′.mode k ≡ s.mode k) × (s′.ask k ≡ s.ask k))
         → (carriesPermission m ≡ true → (s.owner ≡ s′.owner) × (s.grant + s.ahead ≡ s′.grant + s′.ahead) × (s′.stage ≡ s.stage))
         → s.grant ≤ s′.grant
         → ((k x : ℕ) → s.grant ≡ s′.grant → (k ≡ s.holder) × (x ≡ s.owner) × (s.ahead ≡ 1) → (k ≡ s′.holder) × (x ≡ s′.owner) × (s′.ahead ≡ 1))
-        → ((k x : ℕ) → s.grant ≡ s′.grant → s′.holder ≢ 0 → (s.holder ≢ 0 → (k ≡ s.holder) × (s.queued x ≢ 0)) → (k ≡ s′.holder) × (s′.queued x ≢ 0))
+        → ((k x : ℕ) → s.grant ≡ s′.grant → s′.holder ≢ 0 → (s.holder ≢ 0 → (k ≡ s.holder) × ((s.queued x) .number ≢ 0)) → (k ≡ s′.holder) × ((s′.queued x) .number ≢ 0))
         → Fits p s m → Fits p s′ m
     unfolding Fits
     fits-change s′ (request k n) r c l h t a = let w = r k (eq-eqb k k refl) in (w .0 ∙ a .0, w .1 ∙ a .1, a .2)
@@ -118,7 +119,7 @@ module _ (p : Setting) where
     fits-change s′ (release k n) r c l h t a = let w = c refl in (a .0 ∙ w .0, a .1 ∙ w .1, w .2 ∙ a .2)
     fits-change s′ (handOver k x n) r c l h t a = (omega arith, λ u. h k x (omega arith) (a .1 (omega arith)), a .2, a .3, a .4)
     fits-change s′ (inquire k n) r c l h t a = (a .0, omega arith, a .2)
-    fits-change s′ (fail k) r c l h t a = a
+    fits-change s′ (fail k n) r c l h t a = a
     fits-change s′ (yield k n) r c l h t a = let w = c refl in (a .0 ∙ w .0, a .1 ∙ w .1, w .2 ∙ a .2)
     fits-change s′ (transfer k x n) r c l h t a = (a .0, omega arith, λ u v. t k x (omega arith) v (a .2 (omega arith)), a .3, a .4)
 
@@ -133,14 +134,14 @@ module _ (p : Setting) where
   all-stage t o d st st′ ms c a = all-map-not _ _ carriesPermission ms c
       (λ m e f. fits-change _ _ m (λ k r. (refl, refl)) (λ u. clash (carriesPermission m) u e) (omega arith) (λ k x u v. v) (λ k x u v w. w v) f) a
 
-  -- the mode and number of b change, and no request of b is under way
-  pub all-mode : (s : Situation) (mode seq : ℕ → ℕ) (b : ℕ) (ms : List Message) → ((k : ℕ) → k ≢ b → (mode k ≡ s.mode k) × (seq k ≡ s.seq k)) → tally (isRequestOf b) ms ≡ 0 → All (Fits p s) ms
-      → All (Fits p (record { grant = s.grant; holder = s.holder; queued = s.queued; mode = mode; seq = seq; owner = s.owner; ahead = s.ahead; stage = s.stage })) ms
-  all-mode s mode seq b ms f c a = all-map-not _ _ (isRequestOf b) ms c
+  -- the mode and the ask of b change, and no request of b is under way
+  pub all-mode : (s : Situation) (mode : ℕ → ℕ) (ask : ℕ → Ask) (b : ℕ) (ms : List Message) → ((k : ℕ) → k ≢ b → (mode k ≡ s.mode k) × (ask k ≡ s.ask k)) → tally (isRequestOf b) ms ≡ 0 → All (Fits p s) ms
+      → All (Fits p (record { grant = s.grant; holder = s.holder; queued = s.queued; mode = mode; ask = ask; owner = s.owner; ahead = s.ahead; stage = s.stage })) ms
+  all-mode s mode ask b ms f c a = all-map-not _ _ (isRequestOf b) ms c
       (λ m e h. fits-change _ _ m (λ k r. f k (λ z. clash (isRequestOf b m) (rw z at r) e)) (λ z. (refl, refl, refl)) (omega arith) (λ k x z v. v) (λ k x z v w. w v) h) a
 
   -- the arbiter's row does not tell the stages apart at which the permission is not free
-  pub row-stage : {g holder holderSeq : ℕ} {q : ℕ → ℕ} {o d st : ℕ} (st′ : ℕ) → st ≢ FREE → st′ ≢ FREE → st′ ≤ RELEASED → ArbiterRow p g holder holderSeq q o d st → ArbiterRow p g holder holderSeq q o d st′
+  pub row-stage : {g holder : ℕ} {holderAsk : Ask} {q : ℕ → Ask} {o d st : ℕ} (st′ : ℕ) → st ≢ FREE → st′ ≢ FREE → st′ ≤ RELEASED → ArbiterRow p g holder holderAsk q o d st → ArbiterRow p g holder holderAsk q o d st′
   row-stage st′ a b l r = record {
     aheadByOne = r .aheadByOne;
     ownerIsHolder = r .ownerIsHolder;

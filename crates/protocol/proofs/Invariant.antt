@@ -9,6 +9,7 @@ use mathlib.Core.Bool.{Bool, true, false, _&&_, _||_, cond}
 use mathlib.Core.List.{List, [], _∷_}
 use lib.Dec.{eqb}
 use Rattle.basics.specs.Helpers.{tally}
+use Rattle.protocol.specs.Ask.{Ask, noAsk}
 use Rattle.protocol.specs.Message.{Message, request, reply, release, handOver, inquire, fail, yield, transfer, REQUEST, INQUIRE, FAIL, HANDOVER, kind, isOut, isBack}
 use Rattle.protocol.specs.Setting.{Setting}
 use Rattle.protocol.specs.Local.{WAITING, INSIDE, Local, View}
@@ -48,33 +49,33 @@ ghost o d s k = record { owner = o; ahead = d; stage = s; known = k }
 
 -- the site at the other end, and the sequence or grant number
 abbrev pub siteOf : Message → ℕ
-siteOf (request k n) = k
+siteOf (request k a) = k
 siteOf (reply f k n) = k
 siteOf (release k n) = k
 siteOf (handOver k x n) = k
 siteOf (inquire k n) = k
-siteOf (fail k) = k
+siteOf (fail k n) = k
 siteOf (yield k n) = k
 siteOf (transfer k x n) = k
 
 abbrev pub numberOf : Message → ℕ
-numberOf (request k n) = n
+numberOf (request k a) = a.number
 numberOf (reply f k n) = n
 numberOf (release k n) = n
 numberOf (handOver k x n) = n
 numberOf (inquire k n) = n
-numberOf (fail k) = 0
+numberOf (fail k n) = n
 numberOf (yield k n) = n
 numberOf (transfer k x n) = n
 
 -- the heir that a hand-over or a transfer names
 abbrev pub heirOf : Message → ℕ
-heirOf (request k n) = 0
+heirOf (request k a) = 0
 heirOf (reply f k n) = 0
 heirOf (release k n) = 0
 heirOf (handOver k x n) = x
 heirOf (inquire k n) = 0
-heirOf (fail k) = 0
+heirOf (fail k n) = 0
 heirOf (yield k n) = 0
 heirOf (transfer k x n) = x
 
@@ -126,15 +127,15 @@ Ascending k lo (m ∷ ms) = (isInquireTo k m ≡ true → lo ≤ numberOf m) × 
 pub record Situation : Type 0 where
   pub grant : ℕ
   pub holder : ℕ
-  pub queued : ℕ → ℕ
+  pub queued : ℕ → Ask
   pub mode : ℕ → ℕ
-  pub seq : ℕ → ℕ
+  pub ask : ℕ → Ask
   pub owner : ℕ
   pub ahead : ℕ
   pub stage : ℕ
 
 abbrev pub situation : Local → ℕ → ℕ → ℕ → Situation
-situation t o d s = record { grant = t.grant; holder = t.holder; queued = t.queued; mode = t.mode; seq = t.seq; owner = o; ahead = d; stage = s }
+situation t o d s = record { grant = t.grant; holder = t.holder; queued = t.queued; mode = t.mode; ask = t.ask; owner = o; ahead = d; stage = s }
 
 -- S4: a site that holds the permission and remembers an inquire remembers one of that number, and is not failed
 abbrev pub InquiryFits : Local → ℕ → Type 0
@@ -144,41 +145,41 @@ module _ (p : Setting) where
   -- Each message fits. R1 of requests; T1, T4 and T3 of replies, releases and yields, which have the permission's number and its
   -- owner and exist at one stage only; T5 of hand-overs; T8 of inquires; T6 of transfers. Every site named is a member.
   unfoldable pub Fits : Situation → Message → Type 0
-  Fits s (request k n) = (s.mode k ≡ WAITING) × (s.seq k ≡ n) × (p .member k ≡ true)
+  Fits s (request k a) = (s.mode k ≡ WAITING) × (s.ask k ≡ a) × (p .member k ≡ true)
   Fits s (reply f k n) = (k ≡ s.owner) × (n ≡ s.grant + s.ahead) × (s.stage ≡ OUT) × (1 ≤ f) × (f ≤ p .size)
   Fits s (release k n) = (k ≡ s.owner) × (n ≡ s.grant + s.ahead) × (s.stage ≡ RELEASED)
   Fits s (handOver k x n) =
       (n ≤ s.grant) × (n ≡ s.grant → (k ≡ s.holder) × (x ≡ s.owner) × (s.ahead ≡ 1)) × (p .member k ≡ true) × (p .member x ≡ true) × (1 ≤ n)
   Fits s (inquire k n) = (1 ≤ n) × (n ≤ s.grant) × (p .member k ≡ true)
-  Fits s (fail k) = p .member k ≡ true
+  Fits s (fail k n) = p .member k ≡ true
   Fits s (yield k n) = (k ≡ s.owner) × (n ≡ s.grant + s.ahead) × (s.stage ≡ YIELDED)
   Fits s (transfer k x n) =
-      (1 ≤ n) × (n ≤ s.grant) × (n ≡ s.grant → s.holder ≢ 0 → (k ≡ s.holder) × (s.queued x ≢ 0)) × (p .member k ≡ true) × (p .member x ≡ true)
+      (1 ≤ n) × (n ≤ s.grant) × (n ≡ s.grant → s.holder ≢ 0 → (k ≡ s.holder) × ((s.queued x) .number ≢ 0)) × (p .member k ≡ true) × (p .member x ≡ true)
 
   -- The arbiter's row.
-  pub record ArbiterRow (grant holder holderSeq : ℕ) (queued : ℕ → ℕ) (owner ahead stage : ℕ) : Type 0 where
+  pub record ArbiterRow (grant holder : ℕ) (holderAsk : Ask) (queued : ℕ → Ask) (owner ahead stage : ℕ) : Type 0 where
     -- the arbiter is at most one hand-over behind
     pub aheadByOne : ahead ≤ 1
     -- where it has heard of all, its holder is the owner
     pub ownerIsHolder : ahead ≡ 0 → owner ≡ holder
     -- where it has not, the owner is another site and still queued
-    pub handedOver : ahead ≢ 0 → (1 ≤ queued owner) × (1 ≤ holder) × (owner ≢ holder)
-    -- free: no owner, nothing unheard, no holder's number
-    pub whenFree : stage ≡ FREE → (owner ≡ 0) × (ahead ≡ 0) × (holderSeq ≡ 0)
+    pub handedOver : ahead ≢ 0 → (1 ≤ (queued owner) .number) × (1 ≤ holder) × (owner ≢ holder)
+    -- free: no owner, nothing unheard, no holder's ask
+    pub whenFree : stage ≡ FREE → (owner ≡ 0) × (ahead ≡ 0) × (holderAsk ≡ noAsk)
     -- not free: owner and holder are sites with this arbiter in their set, and the numbers are at least 1
-    pub whenTaken : stage ≢ FREE → (p .member owner ≡ true) × (p .member holder ≡ true) × (1 ≤ holderSeq) × (1 ≤ grant)
+    pub whenTaken : stage ≢ FREE → (p .member owner ≡ true) × (p .member holder ≡ true) × (1 ≤ holderAsk.number) × (1 ≤ grant)
     pub stageRange : stage ≤ RELEASED
     -- A2: the holder is not queued
-    pub holderNotQueued : queued holder ≡ 0
+    pub holderNotQueued : queued holder ≡ noAsk
 
   -- Where each ask is.
-  pub record Asks (holderSeq : ℕ) (queued mode seq : ℕ → ℕ) (failed : ℕ → Bool) (owner ahead stage : ℕ) (known : ℕ → ℕ) : Type 0 where
-    -- R3: a known ask of a site other than the owner is queued with its current number
-    pub queuedIfKnown : (k : ℕ) → k ≢ owner → known k ≢ 0 → queued k ≡ seq k
+  pub record Asks (holderAsk : Ask) (queued : ℕ → Ask) (mode : ℕ → ℕ) (ask : ℕ → Ask) (failed : ℕ → Bool) (owner ahead stage : ℕ) (known : ℕ → ℕ) : Type 0 where
+    -- R3: a known ask of a site other than the owner is queued, and is its current one
+    pub queuedIfKnown : (k : ℕ) → k ≢ owner → known k ≢ 0 → queued k ≡ ask k
     -- R4: where no ask is known, only the owner may be queued
-    pub emptyIfUnknown : (k : ℕ) → k ≢ owner → known k ≡ 0 → queued k ≡ 0
+    pub emptyIfUnknown : (k : ℕ) → k ≢ owner → known k ≡ 0 → queued k ≡ noAsk
     -- R3 for the owner: its entry, as holder or in the queue, is current
-    pub ownerEntry : known owner ≢ 0 → (ahead ≡ 0 → holderSeq ≡ seq owner) × (ahead ≢ 0 → queued owner ≡ seq owner)
+    pub ownerEntry : known owner ≢ 0 → (ahead ≡ 0 → holderAsk ≡ ask owner) × (ahead ≢ 0 → queued owner ≡ ask owner)
     -- T1: whoever a reply goes to still waits
     pub outKnown : stage ≡ OUT → known owner ≢ 0
     -- T2: who holds the permission and does not wait for it is inside
@@ -192,17 +193,17 @@ module _ (p : Setting) where
     -- S2: who is inside holds the permission
     pub insideHolds : (k : ℕ) → mode k ≡ INSIDE → p .member k ≡ true → (k ≡ owner) × (stage ≡ HELD)
     -- "A site not waiting has sequence number and failed mark 0, a waiting one a sequence number of at least 1"
-    pub waitingNumbered : (k : ℕ) → mode k ≡ WAITING → 1 ≤ seq k
-    pub notWaitingClear : (k : ℕ) → mode k ≢ WAITING → (seq k ≡ 0) × (failed k ≡ false)
+    pub waitingNumbered : (k : ℕ) → mode k ≡ WAITING → 1 ≤ (ask k) .number
+    pub notWaitingClear : (k : ℕ) → mode k ≢ WAITING → (ask k ≡ noAsk) × (failed k ≡ false)
 
   -- The column of the sites' tables.
-  pub record Column (grant : ℕ) (queued mode held heir inquired : ℕ → ℕ) (owner ahead stage : ℕ) : Type 0 where
+  pub record Column (grant : ℕ) (queued : ℕ → Ask) (mode held heir inquired : ℕ → ℕ) (owner ahead stage : ℕ) : Type 0 where
     -- T2: only the owner holds, and only at that stage
     pub holds : (k : ℕ) → held k ≢ 0 → (k ≡ owner) × (stage ≡ HELD)
     -- T2: with the permission's number
     pub number : stage ≡ HELD → held owner ≡ grant + ahead
     -- T7: an heir stands at the owner alone, while the arbiter is not behind, and is queued
-    pub heirs : (k : ℕ) → heir k ≢ 0 → (k ≡ owner) × (stage ≡ HELD) × (ahead ≡ 0) × (queued (heir k) ≢ 0)
+    pub heirs : (k : ℕ) → heir k ≢ 0 → (k ≡ owner) × (stage ≡ HELD) × (ahead ≡ 0) × ((queued (heir k)) .number ≢ 0)
     -- T8: who remembers an inquire waits, and the number is no later than the grant number
     pub remembered : (k : ℕ) → inquired k ≢ 0 → (mode k ≡ WAITING) × (p .member k ≡ true) × (inquired k ≤ grant)
 
@@ -220,26 +221,26 @@ module _ (p : Setting) where
     pub ordered : Ordered ms
 
   -- What is owed, so that no rig is stuck.
-  pub record Owed (grant holder holderSeq : ℕ) (queued : ℕ → ℕ) (failed : ℕ → Bool) (inquired : ℕ → ℕ) (owner ahead stage : ℕ) (known : ℕ → ℕ) (ms : List Message) : Type 0 where
+  pub record Owed (grant holder : ℕ) (holderAsk : Ask) (queued : ℕ → Ask) (failed : ℕ → Bool) (inquired : ℕ → ℕ) (owner ahead stage : ℕ) (known : ℕ → ℕ) (ms : List Message) : Type 0 where
     -- L1: a queued site that is not failed and to whom no fail is under way is the head and comes before the holder
-    pub failOwed : (k : ℕ) → known k ≢ 0 → k ≢ owner → failed k ≡ false → tally (isFailTo k) ms ≡ 0 → (headOf p queued ≡ k) × (p .comesBefore (queued k) k holderSeq holder ≡ true)
+    pub failOwed : (k : ℕ) → known k ≢ 0 → k ≢ owner → failed k ≡ false → tally (isFailTo k) ms ≡ 0 → (headOf p queued ≡ k) × (p .comesBefore (queued k) k holderAsk holder ≡ true)
     -- L2: where the head comes before the holder, which waits, the holder remembers an inquire or one is under way
-    pub inquireOwed : ahead ≡ 0 → stage ≢ FREE → stage ≤ HELD → known owner ≢ 0 → headOf p queued ≢ 0 → p .comesBefore (queued (headOf p queued)) (headOf p queued) holderSeq holder ≡ true → inquired owner ≢ grant
+    pub inquireOwed : ahead ≡ 0 → stage ≢ FREE → stage ≤ HELD → known owner ≢ 0 → headOf p queued ≢ 0 → p .comesBefore (queued (headOf p queued)) (headOf p queued) holderAsk holder ≡ true → inquired owner ≢ grant
         → 0 < tally (isInquire owner grant) ms
     -- L3: inquires arrive in order of number, none older than the one remembered
     pub ascending : (k : ℕ) → Ascending k (inquired k) ms
 
   -- the same, of the tables as a whole
   abbrev pub OwedIn : Local → Ghost → List Message → Type 0
-  OwedIn t o ms = Owed t.grant t.holder t.holderSeq t.queued t.failed t.inquired o.owner o.ahead o.stage o.known ms
+  OwedIn t o ms = Owed t.grant t.holder t.holderAsk t.queued t.failed t.inquired o.owner o.ahead o.stage o.known ms
 
   abbrev pub UnderWayIn : Local → Ghost → List Message → Type 0
   UnderWayIn t o ms = UnderWay (situation t o.owner o.ahead o.stage) o.known ms
 
   -- what each rule keeps by itself
   pub record Core (t : Local) (o : Ghost) (ms : List Message) : Type 0 where
-    pub arbiter : ArbiterRow t.grant t.holder t.holderSeq t.queued o.owner o.ahead o.stage
-    pub asks : Asks t.holderSeq t.queued t.mode t.seq t.failed o.owner o.ahead o.stage o.known
+    pub arbiter : ArbiterRow t.grant t.holder t.holderAsk t.queued o.owner o.ahead o.stage
+    pub asks : Asks t.holderAsk t.queued t.mode t.ask t.failed o.owner o.ahead o.stage o.known
     pub column : Column t.grant t.queued t.mode t.held t.heir t.inquired o.owner o.ahead o.stage
     pub underWay : UnderWayIn t o ms
 
@@ -249,7 +250,7 @@ module _ (p : Setting) where
     -- S4
     pub inquiriesFit : (k : ℕ) → InquiryFits v.tables k
     -- A1: while the permission is free, the queue is empty
-    pub freeQueueEmpty : o.stage ≡ FREE → (k : ℕ) → v.tables.queued k ≡ 0
+    pub freeQueueEmpty : o.stage ≡ FREE → (k : ℕ) → (v.tables.queued k) .number ≡ 0
     pub owed : OwedIn v.tables o v.messages
 
   -- The invariant: some ghosts fit.

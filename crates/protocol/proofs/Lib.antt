@@ -1,5 +1,6 @@
 -- The proof of demand 3. Read Invariant first; then, for one arbiter: Kept (each rule keeps the invariant) and Clauses (what it says of
 -- the tables); then, for the rig: RigInvariant, RigKept and Demand3.
+pub mod Asks
 pub mod Invariant
 pub mod Sending
 pub mod Fitting

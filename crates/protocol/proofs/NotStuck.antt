@@ -17,13 +17,14 @@ use Rattle.protocol.specs.Arbiter.{headOf}
 use Rattle.protocol.specs.System.{System, Lawful, settingOf}
 use Rattle.protocol.specs.Rig.{Row, Sites, localOf}
 use Rattle.basics.proofs.Basics.{by-bool, clash, and-split, count-some, Least, least}
+use Rattle.protocol.proofs.Asks.{same-number}
 use Rattle.protocol.proofs.Head.{head-is}
 use Rattle.protocol.proofs.Seen.{law-of}
 use Rattle.protocol.proofs.Clauses.{Clauses}
 
 module _ (p : Setting) (law : SettingLaw p) (t : Local) (v : Clauses p (view t [])) (out : (k : ℕ) → (t.mode k ≡ REST) ⊎ (t.mode k ≡ WAITING)) where
   -- with nothing under way and nobody inside, a holder has the permission
-  pub holder-holds : t.holder ≢ 0 → (t.held t.holder ≡ t.grant) × (t.held t.holder ≢ 0) × (t.mode t.holder ≡ WAITING) × (t.holderSeq ≡ t.seq t.holder)
+  pub holder-holds : t.holder ≢ 0 → (t.held t.holder ≡ t.grant) × (t.held t.holder ≢ 0) × (t.mode t.holder ≡ WAITING) × (t.holderAsk ≡ t.ask t.holder)
   unfolding tally
   holder-holds h =
       let one = rw (ne-eqb t.holder 0 h) at (v .A3) in
@@ -39,7 +40,7 @@ module _ (p : Setting) (law : SettingLaw p) (t : Local) (v : Clauses p (view t [
       ]
 
   -- a queued site waits, and its entry is current
-  pub queued-current : (i : ℕ) → t.queued i ≢ 0 → (t.mode i ≡ WAITING) × (t.queued i ≡ t.seq i)
+  pub queued-current : (i : ℕ) → (t.queued i) .number ≢ 0 → (t.mode i ≡ WAITING) × (t.queued i ≡ t.ask i)
   unfolding tally
   queued-current i h =
       let mi = v .queuedMember i h in
@@ -50,8 +51,8 @@ module _ (p : Setting) (law : SettingLaw p) (t : Local) (v : Clauses p (view t [
 
   -- a waiting site that lacks the permission, and is not failed or comes first, waits for one that comes later and is not failed
   pub waits-for-later : (k : ℕ) → t.mode k ≡ WAITING → p .member k ≡ true → t.held k ≡ 0
-      → (t.failed k ≡ false) ⊎ ((i : ℕ) → t.mode i ≡ WAITING → i ≢ k → p .comesBefore (t.seq k) k (t.seq i) i ≡ true)
-      → (h : ℕ) × (t.mode h ≡ WAITING) × (t.failed h ≡ false) × (p .comesBefore (t.seq k) k (t.seq h) h ≡ true)
+      → (t.failed k ≡ false) ⊎ ((i : ℕ) → t.mode i ≡ WAITING → i ≢ k → p .comesBefore (t.ask k) k (t.ask i) i ≡ true)
+      → (h : ℕ) × (t.mode h ≡ WAITING) × (t.failed h ≡ false) × (p .comesBefore (t.ask k) k (t.ask h) h ≡ true)
   unfolding tally
   waits-for-later k m e h0 d =
       let k1 = law .siteInRange k e in
@@ -59,10 +60,10 @@ module _ (p : Setting) (law : SettingLaw p) (t : Local) (v : Clauses p (view t [
       elim (v .R3 k m e refl) [
         | inl w ↦ let h = holder-holds (λ z. let y = w .0 in omega arith) .1 in absurd (h (rw (w .0) h0))
         | inr w ↦
-            let hz : t.holder ≢ 0 = (λ z. let y = v .A1 z k in let u = w .1 in omega arith) in
+            let hz : t.holder ≢ 0 = (λ z. let y = v .A1 z k in let u = same-number (w .1) in omega arith) in
             let h = holder-holds hz in
-            let qk : t.queued k ≢ 0 = (λ z. let u = w .1 in omega arith) in
-            let first : (headOf p t.queued ≡ k) × (p .comesBefore (t.queued k) k t.holderSeq t.holder ≡ true) = elim d [
+            let qk : (t.queued k) .number ≢ 0 = (λ z. let u = same-number (w .1) in omega arith) in
+            let first : (headOf p t.queued ≡ k) × (p .comesBefore (t.queued k) k t.holderAsk t.holder ≡ true) = elim d [
               | inl f ↦ v .L1 k m e refl (w .0) refl h0 f refl
               | inr f ↦ (
                 head-is p law t.queued k (k1 .0) (k1 .1) qk
@@ -84,26 +85,26 @@ module _ (y : System) (lw : Lawful y) (s : Sites) (rows : ℕ → Row)
     (lacksOne : (k : ℕ) → s.mode k ≡ WAITING → (j : ℕ) × (y.sets k j ≡ true) × ((rows j) .held k ≡ 0)) where
   -- who asked before whom, both ways round
   sooner : ℕ → ℕ → Bool
-  sooner a b = y.comesBefore (s.seq a) a (s.seq b) b
+  sooner a b = y.comesBefore (s.ask a) a (s.ask b) b
 
   later : ℕ → ℕ → Bool
-  later a b = y.comesBefore (s.seq b) b (s.seq a) a
+  later a b = y.comesBefore (s.ask b) b (s.ask a) a
 
   soon-irrefl : (a : ℕ) → sooner a a ≡ false
   unfolding sooner
-  soon-irrefl a = lw .irreflexive (s.seq a) a
+  soon-irrefl a = lw .irreflexive (s.ask a) a
 
   soon-trans : (a b c : ℕ) → sooner a b ≡ true → sooner b c ≡ true → sooner a c ≡ true
   unfolding sooner
-  soon-trans a b c = lw .transitive (s.seq a) a (s.seq b) b (s.seq c) c
+  soon-trans a b c = lw .transitive (s.ask a) a (s.ask b) b (s.ask c) c
 
   late-irrefl : (a : ℕ) → later a a ≡ false
   unfolding later
-  late-irrefl a = lw .irreflexive (s.seq a) a
+  late-irrefl a = lw .irreflexive (s.ask a) a
 
   late-trans : (a b c : ℕ) → later a b ≡ true → later b c ≡ true → later a c ≡ true
   unfolding later
-  late-trans a b c p q = lw .transitive (s.seq c) c (s.seq b) b (s.seq a) a q p
+  late-trans a b c p q = lw .transitive (s.ask c) c (s.ask b) b (s.ask a) a q p
 
   -- who waits, and who waits and is not failed
   waits : ℕ → Bool
@@ -113,8 +114,8 @@ module _ (y : System) (lw : Lawful y) (s : Sites) (rows : ℕ → Row)
   unfailed k = eqb (s.mode k) WAITING && not (s.failed k)
 
   -- from a waiting site to a later one, which is not failed
-  next : (k : ℕ) → s.mode k ≡ WAITING → (s.failed k ≡ false) ⊎ ((i : ℕ) → s.mode i ≡ WAITING → i ≢ k → y.comesBefore (s.seq k) k (s.seq i) i ≡ true)
-      → (h : ℕ) × (s.mode h ≡ WAITING) × (s.failed h ≡ false) × (y.comesBefore (s.seq k) k (s.seq h) h ≡ true)
+  next : (k : ℕ) → s.mode k ≡ WAITING → (s.failed k ≡ false) ⊎ ((i : ℕ) → s.mode i ≡ WAITING → i ≢ k → y.comesBefore (s.ask k) k (s.ask i) i ≡ true)
+      → (h : ℕ) × (s.mode h ≡ WAITING) × (s.failed h ≡ false) × (y.comesBefore (s.ask k) k (s.ask h) h ≡ true)
   next k m d = let (j, e, h) = lacksOne k m in waits-for-later (settingOf y j) (law-of y lw j) (localOf s (rows j)) (inv j) out k m e h d
 
   -- so none that is not failed is the last
@@ -124,14 +125,14 @@ module _ (y : System) (lw : Lawful y) (s : Sites) (rows : ℕ → Row)
       let w = and-split (eqb (s.mode l.at) WAITING) (not (s.failed l.at)) l.marked in
       let (h, m, f, b) = next l.at (eqb-true (s.mode l.at) WAITING (w .0)) (inl (not-true (s.failed l.at) (w .1))) in
       let z = inRange h m in
-      clash (y.comesBefore (s.seq l.at) l.at (s.seq h) h) b (l.first h (omega arith) (rw (eq-eqb (s.mode h) WAITING m, f)))
+      clash (y.comesBefore (s.ask l.at) l.at (s.ask h) h) b (l.first h (omega arith) (rw (eq-eqb (s.mode h) WAITING m, f)))
 
   -- nobody is stuck: with nothing under way and nobody inside, nobody waits
   pub nobody-waits : (k : ℕ) → s.mode k ≢ WAITING
   unfolding sooner later waits unfailed
   nobody-waits k m = ⊎-elim
       (λ l. let lm = eqb-true (s.mode l.at) WAITING l.marked in
-      let (h, mh, f, b) = next l.at lm (inr (λ i mi ne. let z = inRange i mi in lw .total (s.seq i) i (s.seq l.at) l.at ne (l.first i (omega arith) (eq-eqb (s.mode i) WAITING mi)))) in
+      let (h, mh, f, b) = next l.at lm (inr (λ i mi ne. let z = inRange i mi in lw .total (s.ask i) i (s.ask l.at) l.at ne (l.first i (omega arith) (eq-eqb (s.mode i) WAITING mi)))) in
       let z = inRange h mh in
       ⊎-elim no-last (λ none-unfailed. clash (unfailed h) (rw (eq-eqb (s.mode h) WAITING mh, f)) (none-unfailed h (omega arith)))
       (least later late-irrefl late-trans unfailed (suc y.size)))

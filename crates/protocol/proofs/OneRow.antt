@@ -8,6 +8,7 @@ use mathlib.Core.List.{List, [], _++_, append-assoc, append-nil}
 use lib.Dec.{eqb}
 use borrow.Author.Tests.{ne-eqb}
 use Rattle.basics.specs.Helpers.{update}
+use Rattle.protocol.specs.Ask.{Ask, noAsk, isNoAsk}
 use Rattle.protocol.specs.Message.{Message, request, reply, release, handOver, inquire, fail, yield, transfer, REPLY, FAIL, kind}
 use Rattle.protocol.specs.Setting.{Setting}
 use Rattle.protocol.specs.Local.{WAITING, Local, View, view, withArbiter, withQueued}
@@ -26,9 +27,9 @@ Simple m = (eqb (kind m) REPLY || eqb (kind m) FAIL) ≡ false
 
 module _ (p : Setting) where
   -- each rule in turn
-  granted-row : (t : Local) (k n : ℕ) (ms : List Message) → OneRow (λ v. granted p v k n) t ms
+  granted-row : (t : Local) (k : ℕ) (a : Ask) (ms : List Message) → OneRow (λ v. granted p v k a) t ms
   unfolding granted
-  granted-row t k n ms = by-bool (eqb (headOf p (update t.queued k 0)) 0)
+  granted-row t k a ms = by-bool (eqb (headOf p (update t.queued k noAsk)) 0)
       (λ e. rw e (refl, λ i h. h))
       (λ e. rw e (rw append-assoc, λ i h. h))
 
@@ -46,32 +47,32 @@ module _ (p : Setting) where
       (λ e. by-bool (beforeHolder p t k) (λ f. rw (h, e, f) (simp append-assoc, λ i z. z)) (λ f. rw (h, e, f) (simp append-assoc, λ i z. z))))
       (λ h. rw h (refl, λ i z. z))
 
-  onRequest-row : (t : Local) (k n : ℕ) (ms : List Message) → OneRow (λ v. onRequest p v k n) t ms
+  onRequest-row : (t : Local) (k : ℕ) (a : Ask) (ms : List Message) → OneRow (λ v. onRequest p v k a) t ms
   unfolding onRequest queuedUp
-  onRequest-row t k n ms = by-bool (eqb t.holder 0)
-      (λ e. rw e (granted-row t k n ms))
-      (λ e. rw e (answers-row (withQueued t k n) k (headOf p t.queued) ms))
+  onRequest-row t k a ms = by-bool (eqb t.holder 0)
+      (λ e. rw e (granted-row t k a ms))
+      (λ e. rw e (answers-row (withQueued t k a) k (headOf p t.queued) ms))
 
   onRelease-row : (t : Local) (k n : ℕ) (ms : List Message) → OneRow (λ v. onRelease p v k n) t ms
   unfolding onRelease earlyRelease
   onRelease-row t k n ms = by-bool (fromHolder t k n)
-      (λ e. rw e (grantedHead-row (withArbiter t t.grant 0 0 t.queued) ms))
+      (λ e. rw e (grantedHead-row (withArbiter t t.grant 0 noAsk t.queued) ms))
       (λ e. by-bool (isEarly t k n)
-      (λ f. rw (e, f) (grantedHead-row (withArbiter t (suc t.grant) 0 0 (update t.queued k 0)) ms))
+      (λ f. rw (e, f) (grantedHead-row (withArbiter t (suc t.grant) 0 noAsk (update t.queued k noAsk)) ms))
       (λ f. rw (e, f) (rw append-nil, λ i h. h)))
 
   heirTakesOver-row : (t : Local) (x : ℕ) (ms : List Message) → OneRow (λ v. heirTakesOver p v x) t ms
   unfolding heirTakesOver
-  heirTakesOver-row t x ms = by-bool (eqb (headOf p (update t.queued x 0)) 0)
+  heirTakesOver-row t x ms = by-bool (eqb (headOf p (update t.queued x noAsk)) 0)
       (λ e. rw e (rw append-nil, λ i h. h))
-      (λ e. by-bool (p .comesBefore (update t.queued x 0 (headOf p (update t.queued x 0))) (headOf p (update t.queued x 0)) (t.queued x) x)
+      (λ e. by-bool (p .comesBefore (update t.queued x noAsk (headOf p (update t.queued x noAsk))) (headOf p (update t.queued x noAsk)) (t.queued x) x)
       (λ f. rw (e, f) (rw append-assoc, λ i h. h))
       (λ f. rw (e, f) (refl, λ i h. h)))
 
   onHandOver-row : (t : Local) (k x n : ℕ) (ms : List Message) → OneRow (λ v. onHandOver p v k x n) t ms
   unfolding onHandOver
   onHandOver-row t k x n ms = by-bool (fromHolder t k n)
-      (λ e. by-bool (eqb (t.queued x) 0)
+      (λ e. by-bool (isNoAsk (t.queued x))
       (λ f. rw (e, f) (rw append-nil, λ i h. h))
       (λ f. rw (e, f) (heirTakesOver-row t x ms)))
       (λ e. rw e (rw append-nil, λ i h. h))
@@ -79,7 +80,7 @@ module _ (p : Setting) where
   onYield-row : (t : Local) (k n : ℕ) (ms : List Message) → OneRow (λ v. onYield p v k n) t ms
   unfolding onYield
   onYield-row t k n ms = by-bool (fromHolder t k n)
-      (λ e. rw e (grantedHead-row (withArbiter t t.grant 0 0 (update t.queued k t.holderSeq)) ms))
+      (λ e. rw e (grantedHead-row (withArbiter t t.grant 0 noAsk (update t.queued k t.holderAsk)) ms))
       (λ e. rw e (rw append-nil, λ i h. h))
 
   onTransfer-row : (t : Local) (b x n : ℕ) (ms : List Message) → OneRow (λ v. onTransfer v b x n) t ms
@@ -107,7 +108,7 @@ module _ (p : Setting) where
 
   -- a fail
   pub onFail-row : (t : Local) (b : ℕ) (ms : List Message)
-      → (onFail p (view t ms) b ≡ view (localOf (record { mode = t.mode; seq = t.seq; failed = cond (eqb (t.mode b) WAITING) (update t.failed b true) t.failed }) (rowOf ((onFail p (view t []) b) .tables))) (ms ++ (onFail p (view t []) b) .messages))
+      → (onFail p (view t ms) b ≡ view (localOf (record { mode = t.mode; ask = t.ask; failed = cond (eqb (t.mode b) WAITING) (update t.failed b true) t.failed }) (rowOf ((onFail p (view t []) b) .tables))) (ms ++ (onFail p (view t []) b) .messages))
       × ((k : ℕ) → t.held k ≡ 0 → (onFail p (view t []) b) .tables .held k ≡ 0)
   unfolding onFail yielded
   onFail-row t b ms = by-bool (eqb (t.mode b) WAITING)
@@ -119,7 +120,7 @@ module _ (p : Setting) where
   -- a reply
   pub onReply-row : (t : Local) (b n : ℕ) (ent : Bool) (ms : List Message)
       → onReply p (view t ms) b n ent ≡ view (localOf (cond (takes p t b && ent)
-      (record { mode = update t.mode b 2; seq = update t.seq b 0; failed = update t.failed b false }) (sitesOf t)) (rowOf ((onReply p (view t []) b n ent) .tables))) (ms ++ (onReply p (view t []) b n ent) .messages)
+      (record { mode = update t.mode b 2; ask = update t.ask b noAsk; failed = update t.failed b false }) (sitesOf t)) (rowOf ((onReply p (view t []) b n ent) .tables))) (ms ++ (onReply p (view t []) b n ent) .messages)
   unfolding onReply yielded entered
   onReply-row t b n ent ms = by-bool (takes p t b)
       (λ e. by-bool ent
@@ -143,11 +144,11 @@ module _ (p : Setting) where
   -- so every message but a reply and a fail changes one row
   pub handled-row : (t : Local) (m : Message) (ms : List Message) → Simple m → OneRow (λ v. handled p v false m) t ms
   unfolding handled
-  handled-row t (request k n) ms u = onRequest-row t k n ms
+  handled-row t (request k a) ms u = onRequest-row t k a ms
   handled-row t (reply f k n) ms u = clash true refl u
   handled-row t (release k n) ms u = onRelease-row t k n ms
   handled-row t (handOver k x n) ms u = onHandOver-row t k x n ms
   handled-row t (inquire k n) ms u = onInquire-row t k n ms
-  handled-row t (fail k) ms u = clash true refl u
+  handled-row t (fail k n) ms u = clash true refl u
   handled-row t (yield k n) ms u = onYield-row t k n ms
   handled-row t (transfer k x n) ms u = onTransfer-row t k x n ms

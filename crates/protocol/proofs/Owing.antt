@@ -9,6 +9,7 @@ use native.Mathlib.Omega.{arith}
 use lib.Dec.{eqb}
 use borrow.Author.Tests.{eqb-true, eqb-false, eq-eqb}
 use Rattle.basics.specs.Helpers.{update, first, withoutFirst}
+use Rattle.protocol.specs.Ask.{Ask}
 use Rattle.protocol.specs.Message.{Message, inquire, INQUIRE, kind, route, between}
 use Rattle.protocol.specs.Setting.{Setting}
 use Rattle.basics.proofs.Basics.{by-bool, clash, and-split}
@@ -76,12 +77,12 @@ module _ (p : Setting) where
       ascending-snoc k (inquired k) ms (inquire h s.grant) (λ e. l k) (λ e. all-map _ _ ms (λ x o. fits-inquire p s k x o) (m .fit)) (a k)
 
   -- no remembered number is past the grant number
-  pub inquired-low : {g : ℕ} {q mode held heir inquired : ℕ → ℕ} {owner d stage : ℕ} → Column p g q mode held heir inquired owner d stage → (k : ℕ) → inquired k ≤ g
+  pub inquired-low : {g : ℕ} {q : ℕ → Ask} {mode held heir inquired : ℕ → ℕ} {owner d stage : ℕ} → Column p g q mode held heir inquired owner d stage → (k : ℕ) → inquired k ≤ g
   inquired-low {g} {inquired = inquired} c k = by-bool (eqb (inquired k) 0) (λ e. let y = eqb-true (inquired k) 0 e in omega arith) (λ e. c .remembered k (eqb-false (inquired k) 0 e) .2)
 
   -- one more message that is no inquire
-  pub owed-send : {g holder holderSeq : ℕ} {q : ℕ → ℕ} {failed : ℕ → Bool} {inquired : ℕ → ℕ} {owner d stage : ℕ} {known : ℕ → ℕ} (ms : List Message) (m : Message) → ((k : ℕ) → isInquireTo k m ≡ false)
-      → Owed p g holder holderSeq q failed inquired owner d stage known ms → Owed p g holder holderSeq q failed inquired owner d stage known (ms ++ m ∷ [])
+  pub owed-send : {g holder : ℕ} {holderAsk : Ask} {q : ℕ → Ask} {failed : ℕ → Bool} {inquired : ℕ → ℕ} {owner d stage : ℕ} {known : ℕ → ℕ} (ms : List Message) (m : Message) → ((k : ℕ) → isInquireTo k m ≡ false)
+      → Owed p g holder holderAsk q failed inquired owner d stage known ms → Owed p g holder holderAsk q failed inquired owner d stage known (ms ++ m ∷ [])
   owed-send {g} {inquired = inquired} {owner = owner} ms m n l = record {
     failOwed = λ k a b c d. l .failOwed k a b c (snoc-zero (isFailTo k) ms m d);
     inquireOwed = λ a b c d e f h. snoc-keep (isInquire owner g) ms m (l .inquireOwed a b c d e f h);
@@ -89,8 +90,8 @@ module _ (p : Setting) where
   }
 
   -- the ghosts put to the names at hand
-  pub fix-owed : {g holder holderSeq : ℕ} {q : ℕ → ℕ} {failed : ℕ → Bool} {inquired : ℕ → ℕ} {known : ℕ → ℕ} {ms : List Message} (owner d stage b e s : ℕ) → b ≡ owner → e ≡ d → s ≡ stage
-      → Owed p g holder holderSeq q failed inquired owner d stage known ms → Owed p g holder holderSeq q failed inquired b e s known ms
+  pub fix-owed : {g holder : ℕ} {holderAsk : Ask} {q : ℕ → Ask} {failed : ℕ → Bool} {inquired : ℕ → ℕ} {known : ℕ → ℕ} {ms : List Message} (owner d stage b e s : ℕ) → b ≡ owner → e ≡ d → s ≡ stage
+      → Owed p g holder holderAsk q failed inquired owner d stage known ms → Owed p g holder holderAsk q failed inquired b e s known ms
   fix-owed owner d stage b e s x y z l = rw (x, y, z) l
 
   -- the inquire remembered at b is forgotten

@@ -1,6 +1,6 @@
 -- Every event keeps the rig's invariant. An ask, a leave, a fail and an entry change what several arbiters see; every other message
 -- changes what its own arbiter sees, and the others' part and messages stay as they are.
-use Prim.Native.Nat.{ℕ, suc, _≤_, max}
+use Prim.Native.Nat.{ℕ, _≤_, max}
 use mathlib.Core.Path.{_≡_, refl, sym, _∙_}
 use mathlib.Core.Logic.{_≢_}
 use mathlib.Core.Bool.{Bool, true, false, not, _&&_, cond}
@@ -15,7 +15,7 @@ use Rattle.protocol.specs.Setting.{Setting}
 use Rattle.protocol.specs.Local.{REST, WAITING, INSIDE, Local, view}
 use Rattle.protocol.specs.Site.{yielded, entered, takes, onReply, mustYield, onFail, handled}
 use Rattle.protocol.specs.System.{System, Lawful, settingOf}
-use Rattle.protocol.specs.Rig.{Row, Sent, Rig, messagesOf, sent, sentBy, inOrder, channel, Event, ask, leave, deliver, localAt, rowsTaken, withoutInquired, requests, asked, handOns, left, allHeld, effect, withEffect, failSeen, delivered, takenOff, step, run, fresh}
+use Rattle.protocol.specs.Rig.{Row, Sent, Rig, messagesOf, sent, sentBy, inOrder, channel, Event, ask, leave, deliver, localAt, rowsTaken, withoutInquired, made, requests, asked, handOns, left, allHeld, effect, withEffect, failSeen, delivered, takenOff, step, run, fresh}
 use Rattle.basics.proofs.Basics.{by-bool, clash, and-split, and-true, all-at, all-false}
 use Rattle.protocol.proofs.Invariant.{Invariant}
 use Rattle.protocol.proofs.Seen.{askSeen, leaveSeen, viewOf, law-of}
@@ -35,8 +35,8 @@ module _ (y : System) (lw : Lawful y) where
   unfolding asked askSeen update
   asked-kept r s a b m w = record {
     arbiters = λ j.
-        let f : ℕ → List Message = requests y s (suc (r.clock s)) in
-        let kept = askSeen-kept (settingOf y j) (localAt r j) s (suc (r.clock s)) (messagesOf j r.underWay) m (omega arith) (w .arbiters j) in
+        let f : ℕ → List Message = requests y s (made r s) in
+        let kept = askSeen-kept (settingOf y j) (localAt r j) s (made r s) (messagesOf j r.underWay) m (omega arith) (w .arbiters j) in
         rw (messages-append j r.underWay (inOrder f y.size), messages-all j y.size f (λ h. rw (not-member y lw s j h)))
         (by-bool (y.sets s j) (λ e. rw e (rw e at kept)) (λ e. rw (e, append-nil) (rw e at kept)));
     inRange = λ k. by-bool (eqb k s) (λ e. rw e (λ h. rw (eqb-true k s e) (a, b))) (λ e. rw e (w .inRange k));
@@ -112,23 +112,23 @@ module _ (y : System) (lw : Lawful y) where
   onFail-grant p t b = by-bool (eqb (t.mode b) WAITING) (λ e. by-bool (mustYield p t b) (λ f. rw (e, f)) (λ f. rw (e, f))) (λ e. rw e)
 
   -- a fail, at its own arbiter
-  fail-own-arbiter : (r : Rig) (a b j k : ℕ) → first (channel a b) r.underWay ≡ some (sent j (fail k)) → RigInvariant y r
+  fail-own-arbiter : (r : Rig) (a b j k n : ℕ) → first (channel a b) r.underWay ≡ some (sent j (fail k n)) → RigInvariant y r
       → Invariant (settingOf y j) (onFail (settingOf y j) (view (localAt r j) (messagesOf j (withoutFirst (channel a b) r.underWay))) k)
   unfolding handled
-  fail-own-arbiter r a b j k f w = own-arbiter-kept r a b (sent j (fail k)) false f w
+  fail-own-arbiter r a b j k n f w = own-arbiter-kept r a b (sent j (fail k n)) false f w
 
   -- a fail: every arbiter sees it
-  fail-kept : (r : Rig) (a b j k : ℕ) → first (channel a b) r.underWay ≡ some (sent j (fail k)) → RigInvariant y r → RigInvariant y (delivered y r (withoutFirst (channel a b) r.underWay) j (fail k))
+  fail-kept : (r : Rig) (a b j k n : ℕ) → first (channel a b) r.underWay ≡ some (sent j (fail k n)) → RigInvariant y r → RigInvariant y (delivered y r (withoutFirst (channel a b) r.underWay) j (fail k n))
   unfolding delivered
-  fail-kept r a b j k f w =
-      let x : Sent = sent j (fail k) in
+  fail-kept r a b j k n f w =
+      let x : Sent = sent j (fail k n) in
       let rest = withoutFirst (channel a b) r.underWay in
       let F : ℕ → List Message = λ i. (failSeen y r k i) .messages in
       record {
         arbiters = λ i.
             let t = localAt r i in
             rw (messages-append i rest (inOrder F y.size), messages-all i y.size F (λ h. onFail-silent (settingOf y i) t k (not-member y lw k i h)))
-            (rw (onFail-row (settingOf y i) t k (messagesOf i rest) .0) at (fail-seen r a b j k f w i));
+            (rw (onFail-row (settingOf y i) t k (messagesOf i rest) .0) at (fail-seen r a b j k n f w i));
         inRange = w .inRange;
         modeRange = w .modeRange;
         clockInRange = w .clockInRange;
@@ -136,11 +136,11 @@ module _ (y : System) (lw : Lawful y) where
         lacksOne = λ i m. let (j0, s, h) = w .lacksOne i m in (j0, s, onFail-row (settingOf y j0) (localAt r j0) k [] .1 i h);
       }
     where
-      fail-seen : (r : Rig) (a b j k : ℕ) → first (channel a b) r.underWay ≡ some (sent j (fail k)) → RigInvariant y r → (i : ℕ)
+      fail-seen : (r : Rig) (a b j k n : ℕ) → first (channel a b) r.underWay ≡ some (sent j (fail k n)) → RigInvariant y r → (i : ℕ)
           → Invariant (settingOf y i) (onFail (settingOf y i) (view (localAt r i) (messagesOf i (withoutFirst (channel a b) r.underWay))) k)
-      fail-seen r a b j k f w i = by-bool (eqb i j)
-          (λ e. rw (eqb-true i j e) (fail-own-arbiter r a b j k f w))
-          (λ e. rw (without-other a b i r.underWay (sent j (fail k)) f (eqb-false i j e)) (failSeen-kept (settingOf y i) (localAt r i) k (messagesOf i r.underWay) (w .arbiters i)))
+      fail-seen r a b j k n f w i = by-bool (eqb i j)
+          (λ e. rw (eqb-true i j e) (fail-own-arbiter r a b j k n f w))
+          (λ e. rw (without-other a b i r.underWay (sent j (fail k n)) f (eqb-false i j e)) (failSeen-kept (settingOf y i) (localAt r i) k (messagesOf i r.underWay) (w .arbiters i)))
 
   -- a reply, at its own arbiter
   reply-own-arbiter : (r : Rig) (a b j u k n : ℕ) (e : Bool) → first (channel a b) r.underWay ≡ some (sent j (reply u k n)) → RigInvariant y r
@@ -235,8 +235,8 @@ module _ (y : System) (lw : Lawful y) where
   delivered-kept : (r : Rig) (a b j : ℕ) (m : Message) → first (channel a b) r.underWay ≡ some (sent j (m)) → RigInvariant y r → RigInvariant y (delivered y r (withoutFirst (channel a b) r.underWay) j m)
   unfolding delivered update FitsTables
   delivered-kept r a b j (reply u k n) e w = reply-kept r a b j u k n e w
-  delivered-kept r a b j (fail k) e w = fail-kept r a b j k e w
-  delivered-kept r a b j (request k n) e w = withEffect-kept r a b (sent j (request k n)) (update r.clock j (max (r.clock j) n)) (λ i. by-bool (eqb i j) (λ u. rw u (λ h. rw (eqb-true i j u) (lw .memberInRange k j (first-fits y lw r a b j (request k n) e w .3)))) (λ u. rw u (w .clockInRange i))) refl e w
+  delivered-kept r a b j (fail k n) e w = fail-kept r a b j k n e w
+  delivered-kept r a b j (request k new) e w = withEffect-kept r a b (sent j (request k new)) (update r.clock j (max (r.clock j) new.number)) (λ i. by-bool (eqb i j) (λ u. rw u (λ h. rw (eqb-true i j u) (lw .memberInRange k j (first-fits y lw r a b j (request k new) e w .3)))) (λ u. rw u (w .clockInRange i))) refl e w
   delivered-kept r a b j (release k n) e w = withEffect-kept r a b (sent j (release k n)) r.clock (w .clockInRange) refl e w
   delivered-kept r a b j (handOver k x n) e w = withEffect-kept r a b (sent j (handOver k x n)) r.clock (w .clockInRange) refl e w
   delivered-kept r a b j (inquire k n) e w = withEffect-kept r a b (sent j (inquire k n)) r.clock (w .clockInRange) refl e w

@@ -3,6 +3,7 @@ use Prim.Native.Nat.{ℕ, suc}
 use mathlib.Core.Bool.{false, not, _&&_, cond}
 use lib.Dec.{eqb}
 use Rattle.basics.specs.Helpers.{update}
+use Rattle.protocol.specs.Ask.{Ask}
 use Rattle.protocol.specs.Message.{request, reply, release, handOver}
 use Rattle.protocol.specs.Setting.{Setting, SettingLaw}
 use Rattle.protocol.specs.Local.{REST, WAITING, View, view, send, withSites, withoutEntry}
@@ -10,18 +11,18 @@ use Rattle.protocol.specs.System.{System, Lawful, settingOf}
 use Rattle.protocol.specs.Rig.{Rig, messagesOf, localAt}
 
 module _ (p : Setting) where
-  -- site k asks with number s
-  unfoldable pub askSeen : View → ℕ → ℕ → View
-  askSeen v k s =
+  -- site k makes the ask a
+  unfoldable pub askSeen : View → ℕ → Ask → View
+  askSeen v k a =
       let t = v.tables in
-      let w = view (withoutEntry (withSites t (update t.mode k WAITING) (update t.seq k s) (update t.failed k false)) k) v.messages in
-      cond (p .member k) (send w (request k s)) w
+      let w = view (withoutEntry (withSites t (update t.mode k WAITING) (update t.ask k a) (update t.failed k false)) k) v.messages in
+      cond (p .member k) (send w (request k a)) w
 
   -- site k leaves
   unfoldable pub leaveSeen : View → ℕ → View
   leaveSeen v k =
       let t = v.tables in
-      let w = view (withoutEntry (withSites t (update t.mode k REST) t.seq t.failed) k) v.messages in
+      let w = view (withoutEntry (withSites t (update t.mode k REST) t.ask t.failed) k) v.messages in
       let n = t.held k in
       let x = t.heir k in
       cond (p .member k && not (eqb n 0))

@@ -54,7 +54,7 @@ route-to j (reply f k n) e = clash false e refl
 route-to j (release k n) e = (refl, refl)
 route-to j (handOver k x n) e = (refl, refl)
 route-to j (inquire k n) e = clash false e refl
-route-to j (fail k) e = clash false e refl
+route-to j (fail k n) e = clash false e refl
 route-to j (yield k n) e = (refl, refl)
 route-to j (transfer k x n) e = clash false e refl
 
@@ -64,7 +64,7 @@ route-from j (reply f k n) e = clash false e refl
 route-from j (release k n) e = clash false e refl
 route-from j (handOver k x n) e = clash false e refl
 route-from j (inquire k n) e = (refl, refl)
-route-from j (fail k) e = clash false e refl
+route-from j (fail k n) e = clash false e refl
 route-from j (yield k n) e = clash false e refl
 route-from j (transfer k x n) e = clash false e refl
 
@@ -121,15 +121,15 @@ module _ (p : Setting) where
   }
 
   -- the three kinds
-  pub send-fail : {s : Situation} {known : ℕ → ℕ} (ms : List Message) (k : ℕ) → p .member k ≡ true → UnderWay p s known ms → UnderWay p s known (ms ++ fail k ∷ [])
+  pub send-fail : {s : Situation} {known : ℕ → ℕ} (ms : List Message) (k n : ℕ) → p .member k ≡ true → UnderWay p s known ms → UnderWay p s known (ms ++ fail k n ∷ [])
   unfolding Fits
-  send-fail ms k h x = send-quiet ms (fail k) refl (λ i. refl) (λ i. refl) h x
+  send-fail ms k n h x = send-quiet ms (fail k n) refl (λ i. refl) (λ i. refl) h x
 
   pub send-inquire : {s : Situation} {known : ℕ → ℕ} (ms : List Message) (k n : ℕ) → 1 ≤ n → n ≤ s.grant → p .member k ≡ true → UnderWay p s known ms → UnderWay p s known (ms ++ inquire k n ∷ [])
   unfolding Fits
   send-inquire ms k n a b h x = send-quiet ms (inquire k n) refl (λ i. refl) (λ i. refl) (a, b, h) x
 
-  pub send-transfer : {s : Situation} {known : ℕ → ℕ} (ms : List Message) (k y n : ℕ) → 1 ≤ n → n ≤ s.grant → k ≡ s.holder → s.queued y ≢ 0 → p .member k ≡ true → p .member y ≡ true → UnderWay p s known ms → UnderWay p s known (ms ++ transfer k y n ∷ [])
+  pub send-transfer : {s : Situation} {known : ℕ → ℕ} (ms : List Message) (k y n : ℕ) → 1 ≤ n → n ≤ s.grant → k ≡ s.holder → (s.queued y) .number ≢ 0 → p .member k ≡ true → p .member y ≡ true → UnderWay p s known ms → UnderWay p s known (ms ++ transfer k y n ∷ [])
   unfolding Fits
   send-transfer ms k y n a b c d h i x = send-quiet ms (transfer k y n) refl (λ i. refl) (λ i. refl) (a, b, λ u w. (c, d), h, i) x
 

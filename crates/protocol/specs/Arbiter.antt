@@ -4,7 +4,8 @@ use Prim.Native.Nat.{ℕ, zero, suc}
 use mathlib.Core.Bool.{Bool, not, _&&_, cond}
 use lib.Dec.{eqb}
 use Rattle.basics.specs.Helpers.{update}
-use Rattle.protocol.specs.Message.{reply, inquire, fail, transfer}
+use Rattle.protocol.specs.Ask.{Ask, noAsk, isNoAsk}
+use Rattle.protocol.specs.Message.{Message, reply, inquire, fail, transfer}
 use Rattle.protocol.specs.Setting.{Setting}
 use Rattle.protocol.specs.Local.{Local, View, view, send, withArbiter, withQueued}
 
@@ -14,41 +15,41 @@ fromHolder t k n = eqb n t.grant && eqb k t.holder
 
 -- "If n = g + 1, no heir is named and k is queued, the release was early"
 abbrev pub isEarly : Local → ℕ → ℕ → Bool
-isEarly t k n = eqb n (suc t.grant) && not (eqb (t.queued k) 0)
+isEarly t k n = eqb n (suc t.grant) && not (isNoAsk (t.queued k))
 
 -- "the heir leaves the queue, g + 1, the heir is holder"
 abbrev pub heldByHeir : Local → ℕ → Local
-heldByHeir t x = withArbiter t (suc t.grant) x (t.queued x) (update t.queued x 0)
+heldByHeir t x = withArbiter t (suc t.grant) x (t.queued x) (update t.queued x noAsk)
 
 module _ (p : Setting) where
   -- queued site k comes before queued site h
-  abbrev pub goesFirst : (ℕ → ℕ) → ℕ → ℕ → Bool
+  abbrev pub goesFirst : (ℕ → Ask) → ℕ → ℕ → Bool
   goesFirst q k h = p .comesBefore (q k) k (q h) h
 
   -- the head, once site k is looked at: h is the head of the sites below k, 0 none
-  abbrev pub headWith : (ℕ → ℕ) → ℕ → ℕ → ℕ
+  abbrev pub headWith : (ℕ → Ask) → ℕ → ℕ → ℕ
   headWith q k h =
-      cond (eqb (q k) 0) h
+      cond (isNoAsk (q k)) h
       (cond (eqb h 0) k
       (cond (goesFirst q k h) k h))
 
   -- "The head is the queued site that comes before all others queued": of the sites 1 to n; 0 where none is queued
-  unfoldable pub head : (ℕ → ℕ) → ℕ → ℕ
+  unfoldable pub head : (ℕ → Ask) → ℕ → ℕ
   head q zero = 0
   head q (suc n) = headWith q (suc n) (head q n)
 
-  abbrev pub headOf : (ℕ → ℕ) → ℕ
+  abbrev pub headOf : (ℕ → Ask) → ℕ
   headOf q = head q (p .size)
 
   -- queued site k comes before the holder
   abbrev pub beforeHolder : Local → ℕ → Bool
-  beforeHolder t k = p .comesBefore (t.queued k) k t.holderSeq t.holder
+  beforeHolder t k = p .comesBefore (t.queued k) k t.holderAsk t.holder
 
   -- "To grant k: off the queue if there, g + 1, holder k with the sequence number of the request being delivered, else the one
   -- queued, reply (about b, number g) to k; if the queue isn't empty, transfer naming the head to k."
-  unfoldable pub granted : View → ℕ → ℕ → View
-  granted v k n =
-      let t = withArbiter v.tables (suc v.tables.grant) k n (update v.tables.queued k 0) in
+  unfoldable pub granted : View → ℕ → Ask → View
+  granted v k a =
+      let t = withArbiter v.tables (suc v.tables.grant) k a (update v.tables.queued k noAsk) in
       let w = send (view t v.messages) (reply (p .arbiter) k t.grant) in
       let h = headOf t.queued in
       cond (eqb h 0) w (send w (transfer k h t.grant))
@@ -59,16 +60,20 @@ module _ (p : Setting) where
       let h = headOf v.tables.queued in
       cond (eqb h 0) v (granted v h (v.tables.queued h))
 
+  -- a fail to site k, about its queued ask
+  abbrev pub failTo : Local → ℕ → Message
+  failTo t k = fail k (p .told (t.queued k))
+
   -- "fail to the former head (before k was queued), if there was one other than k and it comes before the holder"
   abbrev pub formerTold : Local → ℕ → ℕ → Bool
   formerTold t k former = not (eqb former 0) && (not (eqb former k) && beforeHolder t former)
 
   unfoldable pub failFormer : View → ℕ → ℕ → View
-  failFormer v k former = cond (formerTold v.tables k former) (send v (fail former)) v
+  failFormer v k former = cond (formerTold v.tables k former) (send v (failTo v.tables former)) v
 
   -- "then inquire to the holder if k comes before it, else fail to k"
   unfoldable pub inquireOrFail : View → ℕ → View
-  inquireOrFail v k = cond (beforeHolder v.tables k) (send v (inquire v.tables.holder v.tables.grant)) (send v (fail k))
+  inquireOrFail v k = cond (beforeHolder v.tables k) (send v (inquire v.tables.holder v.tables.grant)) (send v (failTo v.tables k))
 
   -- "If k isn't the head: fail to k. If it is: fail to the former head ...; transfer naming k to the holder; then inquire ...": k has
   -- been queued, former was the head before
@@ -76,25 +81,25 @@ module _ (p : Setting) where
   answers v k former =
       cond (eqb (headOf v.tables.queued) k)
       (inquireOrFail (send (failFormer v k former) (transfer v.tables.holder k v.tables.grant)) k)
-      (send v (fail k))
+      (send v (failTo v.tables k))
 
   -- "Otherwise k is queued."
-  unfoldable pub queuedUp : View → ℕ → ℕ → View
-  queuedUp v k n = answers (view (withQueued v.tables k n) v.messages) k (headOf v.tables.queued)
+  unfoldable pub queuedUp : View → ℕ → Ask → View
+  queuedUp v k a = answers (view (withQueued v.tables k a) v.messages) k (headOf v.tables.queued)
 
   -- "Request from k: ... If arbiter b has no holder, it grants k. Otherwise k is queued."
-  unfoldable pub onRequest : View → ℕ → ℕ → View
-  onRequest v k n = cond (eqb v.tables.holder 0) (granted v k n) (queuedUp v k n)
+  unfoldable pub onRequest : View → ℕ → Ask → View
+  onRequest v k a = cond (eqb v.tables.holder 0) (granted v k a) (queuedUp v k a)
 
   -- "k leaves the queue, g + 1, the holder is cleared, the head, if any, is granted."
   unfoldable pub earlyRelease : View → ℕ → View
-  earlyRelease v k = grantedHead (view (withArbiter v.tables (suc v.tables.grant) 0 0 (update v.tables.queued k 0)) v.messages)
+  earlyRelease v k = grantedHead (view (withArbiter v.tables (suc v.tables.grant) 0 noAsk (update v.tables.queued k noAsk)) v.messages)
 
   -- "Release from k with number n", no heir named: "the holder is cleared and the head, if any, is granted"; "Anything else changes
   -- nothing (a late release)."
   unfoldable pub onRelease : View → ℕ → ℕ → View
   onRelease v k n =
-      cond (fromHolder v.tables k n) (grantedHead (view (withArbiter v.tables v.tables.grant 0 0 v.tables.queued) v.messages))
+      cond (fromHolder v.tables k n) (grantedHead (view (withArbiter v.tables v.tables.grant 0 noAsk v.tables.queued) v.messages))
       (cond (isEarly v.tables k n) (earlyRelease v k)
       v)
 
@@ -112,12 +117,12 @@ module _ (p : Setting) where
   unfoldable pub onHandOver : View → ℕ → ℕ → ℕ → View
   onHandOver v k x n =
       cond (fromHolder v.tables k n)
-      (cond (eqb (v.tables.queued x) 0) v (heirTakesOver v x))
+      (cond (isNoAsk (v.tables.queued x)) v (heirTakesOver v x))
       v
 
   -- "Yield with number g from the holder: the holder goes back on the queue with its sequence number, the head is granted."
   unfoldable pub onYield : View → ℕ → ℕ → View
   onYield v k n =
       cond (fromHolder v.tables k n)
-      (grantedHead (view (withArbiter v.tables v.tables.grant 0 0 (update v.tables.queued k v.tables.holderSeq)) v.messages))
+      (grantedHead (view (withArbiter v.tables v.tables.grant 0 noAsk (update v.tables.queued k v.tables.holderAsk)) v.messages))
       v

@@ -1,5 +1,6 @@
 -- Document 01 over tables that are functions, one arbiter at a time, and demand 3 as a statement. The rules have the names that they
 -- have in the crate `model`.
+pub mod Ask
 pub mod Message
 pub mod Setting
 pub mod Local

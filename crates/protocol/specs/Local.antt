@@ -3,6 +3,7 @@ use Prim.Native.Nat.{ℕ}
 use mathlib.Core.Bool.{Bool}
 use mathlib.Core.List.{List, [], _∷_, _++_}
 use Rattle.basics.specs.Helpers.{update}
+use Rattle.protocol.specs.Ask.{Ask}
 use Rattle.protocol.specs.Message.{Message}
 
 -- "A site is at rest, waiting or inside"
@@ -21,10 +22,10 @@ INSIDE = 2
 pub record Local : Type 0 where
   pub grant : ℕ
   pub holder : ℕ
-  pub holderSeq : ℕ
-  pub queued : ℕ → ℕ
+  pub holderAsk : Ask
+  pub queued : ℕ → Ask
   pub mode : ℕ → ℕ
-  pub seq : ℕ → ℕ
+  pub ask : ℕ → Ask
   pub failed : ℕ → Bool
   pub held : ℕ → ℕ
   pub heir : ℕ → ℕ
@@ -41,20 +42,20 @@ view t ms = record { tables = t; messages = ms }
 abbrev pub send : View → Message → View
 send v m = record { tables = v.tables; messages = v.messages ++ m ∷ [] }
 
--- the tables with other entries: the arbiter's row, the sites' modes, numbers and marks, the column of held, heir and inquired
-abbrev pub withArbiter : Local → ℕ → ℕ → ℕ → (ℕ → ℕ) → Local
-withArbiter t g h s q = record { grant = g; holder = h; holderSeq = s; queued = q; mode = t.mode; seq = t.seq; failed = t.failed; held = t.held; heir = t.heir; inquired = t.inquired }
+-- the tables with other entries: the arbiter's row, the sites' modes, asks and marks, the column of held, heir and inquired
+abbrev pub withArbiter : Local → ℕ → ℕ → Ask → (ℕ → Ask) → Local
+withArbiter t g h a q = record { grant = g; holder = h; holderAsk = a; queued = q; mode = t.mode; ask = t.ask; failed = t.failed; held = t.held; heir = t.heir; inquired = t.inquired }
 
-abbrev pub withSites : Local → (ℕ → ℕ) → (ℕ → ℕ) → (ℕ → Bool) → Local
-withSites t mo se fa = record { grant = t.grant; holder = t.holder; holderSeq = t.holderSeq; queued = t.queued; mode = mo; seq = se; failed = fa; held = t.held; heir = t.heir; inquired = t.inquired }
+abbrev pub withSites : Local → (ℕ → ℕ) → (ℕ → Ask) → (ℕ → Bool) → Local
+withSites t mo ak fa = record { grant = t.grant; holder = t.holder; holderAsk = t.holderAsk; queued = t.queued; mode = mo; ask = ak; failed = fa; held = t.held; heir = t.heir; inquired = t.inquired }
 
 abbrev pub withEntries : Local → (ℕ → ℕ) → (ℕ → ℕ) → (ℕ → ℕ) → Local
-withEntries t he hr iq = record { grant = t.grant; holder = t.holder; holderSeq = t.holderSeq; queued = t.queued; mode = t.mode; seq = t.seq; failed = t.failed; held = he; heir = hr; inquired = iq }
+withEntries t he hr iq = record { grant = t.grant; holder = t.holder; holderAsk = t.holderAsk; queued = t.queued; mode = t.mode; ask = t.ask; failed = t.failed; held = he; heir = hr; inquired = iq }
 
 -- "its three entries are cleared", of site k
 abbrev pub withoutEntry : Local → ℕ → Local
 withoutEntry t k = withEntries t (update t.held k 0) (update t.heir k 0) (update t.inquired k 0)
 
--- site k is queued with number n; n is 0 where it leaves the queue
-abbrev pub withQueued : Local → ℕ → ℕ → Local
-withQueued t k n = withArbiter t t.grant t.holder t.holderSeq (update t.queued k n)
+-- site k is queued with the ask a
+abbrev pub withQueued : Local → ℕ → Ask → Local
+withQueued t k a = withArbiter t t.grant t.holder t.holderAsk (update t.queued k a)

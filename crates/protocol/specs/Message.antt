@@ -4,14 +4,15 @@
 use Prim.Native.Nat.{ℕ}
 use mathlib.Core.Bool.{Bool, _&&_, _||_}
 use lib.Dec.{eqb}
+use Rattle.protocol.specs.Ask.{Ask}
 
 pub data Message : Type 0 where
-  request : ℕ → ℕ → Message  -- site, sequence number
+  request : ℕ → Ask → Message  -- site, its ask
   reply : ℕ → ℕ → ℕ → Message  -- sender (the arbiter, or the site that hands on), site, grant number
   release : ℕ → ℕ → Message  -- site, grant number
   handOver : ℕ → ℕ → ℕ → Message  -- site, heir, grant number
   inquire : ℕ → ℕ → Message  -- site, grant number
-  fail : ℕ → Message  -- site
+  fail : ℕ → ℕ → Message  -- site, number
   yield : ℕ → ℕ → Message  -- site, grant number
   transfer : ℕ → ℕ → ℕ → Message  -- site, heir, grant number
 
@@ -42,12 +43,12 @@ abbrev pub HANDOVER : ℕ
 HANDOVER = 8
 
 abbrev pub kind : Message → ℕ
-kind (request k n) = REQUEST
+kind (request k a) = REQUEST
 kind (reply f k n) = REPLY
 kind (release k n) = RELEASE
 kind (handOver k x n) = HANDOVER
 kind (inquire k n) = INQUIRE
-kind (fail k) = FAIL
+kind (fail k n) = FAIL
 kind (yield k n) = YIELD
 kind (transfer k x n) = TRANSFER
 
@@ -57,12 +58,12 @@ pub record Route : Type 0 where
   pub to : ℕ
 
 abbrev pub route : ℕ → Message → Route
-route j (request k n) = record { from = k; to = j }
+route j (request k a) = record { from = k; to = j }
 route j (reply f k n) = record { from = f; to = k }
 route j (release k n) = record { from = k; to = j }
 route j (handOver k x n) = record { from = k; to = j }
 route j (inquire k n) = record { from = j; to = k }
-route j (fail k) = record { from = j; to = k }
+route j (fail k n) = record { from = j; to = k }
 route j (yield k n) = record { from = k; to = j }
 route j (transfer k x n) = record { from = j; to = k }
 

@@ -5,6 +5,7 @@ use mathlib.Core.List.{List, [], _∷_, _++_}
 use mathlib.Core.Option.{Option, none, some}
 use lib.Dec.{eqb, leb}
 use Rattle.basics.specs.Helpers.{update, all, first, withoutFirst}
+use Rattle.protocol.specs.Ask.{Ask, askWith, noAsk}
 use Rattle.protocol.specs.Message.{Message, request, reply, release, handOver, inquire, fail, yield, transfer, between}
 use Rattle.protocol.specs.Local.{REST, WAITING, INSIDE, Local, View, view}
 use Rattle.protocol.specs.Site.{taken, takes, onFail, handled}
@@ -14,15 +15,15 @@ use Rattle.protocol.specs.System.{System, settingOf}
 pub record Row : Type 0 where
   pub grant : ℕ
   pub holder : ℕ
-  pub holderSeq : ℕ
-  pub queued : ℕ → ℕ
+  pub holderAsk : Ask
+  pub queued : ℕ → Ask
   pub held : ℕ → ℕ
   pub heir : ℕ → ℕ
   pub inquired : ℕ → ℕ
 
 pub record Sites : Type 0 where
   pub mode : ℕ → ℕ
-  pub seq : ℕ → ℕ
+  pub ask : ℕ → Ask
   pub failed : ℕ → Bool
 
 -- a message with the arbiter that it belongs to
@@ -39,13 +40,13 @@ pub record Rig : Type 0 where
 
 -- the part that concerns one arbiter, and back
 abbrev pub localOf : Sites → Row → Local
-localOf s r = record { grant = r.grant; holder = r.holder; holderSeq = r.holderSeq; queued = r.queued; mode = s.mode; seq = s.seq; failed = s.failed; held = r.held; heir = r.heir; inquired = r.inquired }
+localOf s r = record { grant = r.grant; holder = r.holder; holderAsk = r.holderAsk; queued = r.queued; mode = s.mode; ask = s.ask; failed = s.failed; held = r.held; heir = r.heir; inquired = r.inquired }
 
 abbrev pub rowOf : Local → Row
-rowOf t = record { grant = t.grant; holder = t.holder; holderSeq = t.holderSeq; queued = t.queued; held = t.held; heir = t.heir; inquired = t.inquired }
+rowOf t = record { grant = t.grant; holder = t.holder; holderAsk = t.holderAsk; queued = t.queued; held = t.held; heir = t.heir; inquired = t.inquired }
 
 abbrev pub sitesOf : Local → Sites
-sitesOf t = record { mode = t.mode; seq = t.seq; failed = t.failed }
+sitesOf t = record { mode = t.mode; ask = t.ask; failed = t.failed }
 
 -- the messages of arbiter j, out of all and back
 unfoldable pub messagesOf : ℕ → List Sent → List Message
@@ -76,7 +77,7 @@ pub data Event : Type 0 where
 
 -- "All three entries of every member, held or not, are cleared."
 abbrev pub withoutEntries : Row → ℕ → Row
-withoutEntries r s = record { grant = r.grant; holder = r.holder; holderSeq = r.holderSeq; queued = r.queued; held = update r.held s 0; heir = update r.heir s 0; inquired = update r.inquired s 0 }
+withoutEntries r s = record { grant = r.grant; holder = r.holder; holderAsk = r.holderAsk; queued = r.queued; held = update r.held s 0; heir = update r.heir s 0; inquired = update r.inquired s 0 }
 
 -- "with heir k, a reply (about j, number g + 1) to k, then a release (about k, number g) to j; without, a release (about 0,
 -- number g) to j": what site s sends on, held with number g
@@ -93,21 +94,25 @@ rowsTaken r j b n = update r.rows j (rowOf (taken (localAt r j) b n))
 
 -- "all remembered inquires become 0" when a site enters: those of the other arbiters
 abbrev pub withoutInquired : Row → ℕ → Row
-withoutInquired r b = record { grant = r.grant; holder = r.holder; holderSeq = r.holderSeq; queued = r.queued; held = r.held; heir = r.heir; inquired = update r.inquired b 0 }
+withoutInquired r b = record { grant = r.grant; holder = r.holder; holderAsk = r.holderAsk; queued = r.queued; held = r.held; heir = r.heir; inquired = update r.inquired b 0 }
+
+-- "Clock and sequence number become clock + 1": the ask that site s makes
+abbrev pub made : Rig → ℕ → Ask
+made r s = askWith (suc (r.clock s))
 
 module _ (y : System) where
   -- "requests go to its members, ascending"
-  abbrev pub requests : ℕ → ℕ → ℕ → List Message
-  requests s n j = cond (y.sets s j) (request s n ∷ []) []
+  abbrev pub requests : ℕ → Ask → ℕ → List Message
+  requests s a j = cond (y.sets s j) (request s a ∷ []) []
 
   -- "Ask. Clock and sequence number become clock + 1; failed, held, heirs and remembered inquires are cleared; the site waits;
   -- requests go to its members, ascending."
   unfoldable pub asked : Rig → ℕ → Rig
   asked r s = record {
-    sites = record { mode = update r.sites.mode s WAITING; seq = update r.sites.seq s (suc (r.clock s)); failed = update r.sites.failed s false };
+    sites = record { mode = update r.sites.mode s WAITING; ask = update r.sites.ask s (made r s); failed = update r.sites.failed s false };
     clock = update r.clock s (suc (r.clock s));
     rows = λ j. withoutEntries (r.rows j) s;
-    underWay = r.underWay ++ inOrder (requests s (suc (r.clock s))) y.size;
+    underWay = r.underWay ++ inOrder (requests s (made r s)) y.size;
   }
 
   -- "For each member j ascending, held with number g"
@@ -117,7 +122,7 @@ module _ (y : System) where
   -- "All three entries of every member, held or not, are cleared. The site is at rest."
   unfoldable pub left : Rig → ℕ → Rig
   left r s = record {
-    sites = record { mode = update r.sites.mode s REST; seq = r.sites.seq; failed = r.sites.failed };
+    sites = record { mode = update r.sites.mode s REST; ask = r.sites.ask; failed = r.sites.failed };
     clock = r.clock;
     rows = λ j. withoutEntries (r.rows j) s;
     underWay = r.underWay ++ inOrder (handOns r s) y.size;
@@ -147,14 +152,14 @@ module _ (y : System) where
   -- what the message m of arbiter j makes of the rig; rest is the list without it. A request raises the clock of the site that is the
   -- arbiter; a fail may be followed by yields to every arbiter; a reply may let its site enter.
   unfoldable pub delivered : Rig → List Sent → ℕ → Message → Rig
-  delivered r rest j (request k n) = withEffect r rest (update r.clock j (max (r.clock j) n)) j (request k n)
+  delivered r rest j (request k a) = withEffect r rest (update r.clock j (max (r.clock j) a.number)) j (request k a)
   delivered r rest j (release k n) = withEffect r rest r.clock j (release k n)
   delivered r rest j (handOver k x n) = withEffect r rest r.clock j (handOver k x n)
   delivered r rest j (yield k n) = withEffect r rest r.clock j (yield k n)
   delivered r rest j (inquire k n) = withEffect r rest r.clock j (inquire k n)
   delivered r rest j (transfer k x n) = withEffect r rest r.clock j (transfer k x n)
-  delivered r rest j (fail b) = record {
-    sites = record { mode = r.sites.mode; seq = r.sites.seq; failed = cond (eqb (r.sites.mode b) WAITING) (update r.sites.failed b true) r.sites.failed };
+  delivered r rest j (fail b n) = record {
+    sites = record { mode = r.sites.mode; ask = r.sites.ask; failed = cond (eqb (r.sites.mode b) WAITING) (update r.sites.failed b true) r.sites.failed };
     clock = r.clock;
     rows = λ i. rowOf ((failSeen r b i) .tables);
     underWay = rest ++ inOrder (λ i. (failSeen r b i) .messages) y.size;
@@ -163,7 +168,7 @@ module _ (y : System) where
       let e = allHeld (rowsTaken r j b n) b in
       let enters = takes (settingOf y j) (localAt r j) b && e in
       record {
-        sites = cond enters (record { mode = update r.sites.mode b INSIDE; seq = update r.sites.seq b 0; failed = update r.sites.failed b false }) r.sites;
+        sites = cond enters (record { mode = update r.sites.mode b INSIDE; ask = update r.sites.ask b noAsk; failed = update r.sites.failed b false }) r.sites;
         clock = r.clock;
         rows = λ i. cond (eqb i j) (rowOf ((effect r j e (reply f b n)) .tables)) (cond enters (withoutInquired (r.rows i) b) (r.rows i));
         underWay = rest ++ sentBy j ((effect r j e (reply f b n)) .messages);
@@ -188,8 +193,8 @@ module _ (y : System) where
 -- "Fresh: all but N and the sets zero, at rest, nothing under way."
 unfoldable pub fresh : Rig
 fresh = record {
-  sites = record { mode = λ k. REST; seq = λ k. 0; failed = λ k. false };
+  sites = record { mode = λ k. REST; ask = λ k. noAsk; failed = λ k. false };
   clock = λ k. 0;
-  rows = λ j. record { grant = 0; holder = 0; holderSeq = 0; queued = λ k. 0; held = λ k. 0; heir = λ k. 0; inquired = λ k. 0 };
+  rows = λ j. record { grant = 0; holder = 0; holderAsk = noAsk; queued = λ k. noAsk; held = λ k. 0; heir = λ k. 0; inquired = λ k. 0 };
   underWay = [];
 }

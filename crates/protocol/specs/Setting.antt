@@ -3,20 +3,22 @@ use Prim.Native.Nat.{ℕ, _≤_}
 use mathlib.Core.Path.{_≡_}
 use mathlib.Core.Logic.{_≢_}
 use mathlib.Core.Bool.{Bool, true, false}
+use Rattle.protocol.specs.Ask.{Ask}
 
--- how many sites there are, the arbiter, the sites that have it in their request set, and the order of asks: comesBefore s k t l
--- says that an ask with sequence number s of site k comes before one with number t of site l
+-- how many sites there are, the arbiter, the sites that have it in their request set, the order of asks, and the number that a fail
+-- tells of an ask: comesBefore a k b l says that the ask a of site k comes before the ask b of site l
 pub record Setting : Type 0 where
   pub size : ℕ
   pub arbiter : ℕ
   pub member : ℕ → Bool
-  pub comesBefore : ℕ → ℕ → ℕ → ℕ → Bool
+  pub comesBefore : Ask → ℕ → Ask → ℕ → Bool
+  pub told : Ask → ℕ
 
 -- The rules below work without these laws; the proofs need them. Of the order nothing is assumed but that it is strict, transitive
 -- and total between different sites.
 pub record SettingLaw (p : Setting) : Type 0 where
   pub siteInRange : (k : ℕ) → p .member k ≡ true → (1 ≤ k) × (k ≤ p .size)
   pub arbiterInRange : (k : ℕ) → p .member k ≡ true → (1 ≤ p .arbiter) × (p .arbiter ≤ p .size)
-  pub irreflexive : (s k : ℕ) → p .comesBefore s k s k ≡ false
-  pub transitive : (a x b y c z : ℕ) → p .comesBefore a x b y ≡ true → p .comesBefore b y c z ≡ true → p .comesBefore a x c z ≡ true
-  pub total : (a x b y : ℕ) → x ≢ y → p .comesBefore a x b y ≡ false → p .comesBefore b y a x ≡ true
+  pub irreflexive : (a : Ask) (x : ℕ) → p .comesBefore a x a x ≡ false
+  pub transitive : (a : Ask) (x : ℕ) (b : Ask) (y : ℕ) (c : Ask) (z : ℕ) → p .comesBefore a x b y ≡ true → p .comesBefore b y c z ≡ true → p .comesBefore a x c z ≡ true
+  pub total : (a : Ask) (x : ℕ) (b : Ask) (y : ℕ) → x ≢ y → p .comesBefore a x b y ≡ false → p .comesBefore b y a x ≡ true

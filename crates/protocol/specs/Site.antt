@@ -3,6 +3,7 @@ use Prim.Native.Nat.{ℕ}
 use mathlib.Core.Bool.{Bool, true, false, not, _&&_, cond}
 use lib.Dec.{eqb}
 use Rattle.basics.specs.Helpers.{update}
+use Rattle.protocol.specs.Ask.{noAsk}
 use Rattle.protocol.specs.Message.{Message, request, reply, release, handOver, inquire, fail, yield, transfer}
 use Rattle.protocol.specs.Setting.{Setting}
 use Rattle.protocol.specs.Local.{WAITING, INSIDE, Local, View, view, send, withSites, withEntries, withoutEntry}
@@ -12,13 +13,13 @@ use Rattle.protocol.specs.Arbiter.{onRequest, onRelease, onHandOver, onY
 unfoldable pub yielded : View → ℕ → View
 yielded v b =
     let t = v.tables in
-    send (view (withoutEntry (withSites t t.mode t.seq (update t.failed b true)) b) v.messages) (yield b (t.held b))
+    send (view (withoutEntry (withSites t t.mode t.ask (update t.failed b true)) b) v.messages) (yield b (t.held b))
 
 -- "the site is inside, and its sequence number, failed mark and all remembered inquires become 0"
 unfoldable pub entered : View → ℕ → View
 entered v b =
     let t = v.tables in
-    view (withEntries (withSites t (update t.mode b INSIDE) (update t.seq b 0) (update t.failed b false)) t.held t.heir (update t.inquired b 0)) v.messages
+    view (withEntries (withSites t (update t.mode b INSIDE) (update t.ask b noAsk) (update t.failed b false)) t.held t.heir (update t.inquired b 0)) v.messages
 
 -- "the number is held, and a remembered inquire of another number is forgotten"
 abbrev pub taken : Local → ℕ → ℕ → Local
@@ -81,16 +82,16 @@ module _ (p : Setting) where
       let t = v.tables in
       cond (eqb (t.mode b) WAITING)
       (cond (mustYield t b) (yielded v b)
-      (view (withSites t t.mode t.seq (update t.failed b true)) v.messages))
+      (view (withSites t t.mode t.ask (update t.failed b true)) v.messages))
       v
 
-  -- each kind by its rule; the message is off the list, and allHeld matters for a reply only
+  -- each kind by its rule; the message is off the list, allHeld matters for a reply only, and the number of a fail is not read
   unfoldable pub handled : View → Bool → Message → View
-  handled v allHeld (request k n) = onRequest p v k n
+  handled v allHeld (request k a) = onRequest p v k a
   handled v allHeld (reply f k n) = onReply v k n allHeld
   handled v allHeld (release k n) = onRelease p v k n
   handled v allHeld (handOver k x n) = onHandOver p v k x n
   handled v allHeld (inquire k n) = onInquire v k n
-  handled v allHeld (fail k) = onFail v k
+  handled v allHeld (fail k n) = onFail v k
   handled v allHeld (yield k n) = onYield p v k n
   handled v allHeld (transfer k x n) = onTransfer v k x n

@@ -9,6 +9,7 @@ use native.Mathlib.Omega.{arith}
 use lib.Dec.{eqb}
 use borrow.Author.Tests.{eqb-true, eqb-false, eq-eqb, ne-eqb}
 use Rattle.basics.specs.Helpers.{update, tally}
+use Rattle.protocol.specs.Ask.{Ask}
 use Rattle.protocol.specs.Message.{Message, request}
 use Rattle.protocol.specs.Setting.{Setting}
 use Rattle.protocol.specs.Local.{REST, WAITING, Local, view, withSites, withoutEntry}
@@ -21,10 +22,10 @@ use Rattle.protocol.proofs.Owing.{owed-send, ascending-update}
 use Rattle.protocol.proofs.Seen.{askSeen}
 
 module _ (p : Setting) where
-  module _ (t : Local) (k s : ℕ) (ms : List Message) (w : t.mode k ≡ REST) (l : 1 ≤ s) (o : Ghost) (c : Core p t o ms) where
+  module _ (t : Local) (k : ℕ) (a : Ask) (ms : List Message) (w : t.mode k ≡ REST) (l : 1 ≤ a.number) (o : Ghost) (c : Core p t o ms) where
     -- the tables when k has asked
     waiting : Local
-    waiting = withoutEntry (withSites t (update t.mode k WAITING) (update t.seq k s) (update t.failed k false)) k
+    waiting = withoutEntry (withSites t (update t.mode k WAITING) (update t.ask k a) (update t.failed k false)) k
 
     -- k is not known
     not-known : (i : ℕ) → o.known i ≢ 0 → eqb i k ≡ false
@@ -38,7 +39,7 @@ module _ (p : Setting) where
         (λ e. let u = c .asks .heldInside z (eqb-true _ _ e) in omega arith)
         (λ e. let u = c .asks .knownWaits o.owner (eqb-false _ _ e) .0 in omega arith)
 
-    ask-asks : Asks p waiting.holderSeq waiting.queued waiting.mode waiting.seq waiting.failed o.owner o.ahead o.stage o.known
+    ask-asks : Asks p waiting.holderAsk waiting.queued waiting.mode waiting.ask waiting.failed o.owner o.ahead o.stage o.known
     unfolding waiting update
     ask-asks = record {
       queuedIfKnown = λ i ne h. rw (not-known i h) (c .asks .queuedIfKnown i ne h);
@@ -76,17 +77,17 @@ module _ (p : Setting) where
     ask-inquiriesFit m i = by-bool (eqb i k) (λ e. rw e (λ x. absurd (x refl))) (λ e. rw e (m i))
 
     -- the messages, if k is a member and if not
-    ask-underWay : p .member k ≡ true → UnderWayIn p waiting o (ms ++ request k s ∷ [])
+    ask-underWay : p .member k ≡ true → UnderWayIn p waiting o (ms ++ request k a ∷ [])
     unfolding waiting update Fits
     ask-underWay mk = record {
-      permissions = rw (tally-snoc-no carriesPermission ms (request k s) refl) (c .underWay .permissions);
+      permissions = rw (tally-snoc-no carriesPermission ms (request k a) refl) (c .underWay .permissions);
       requests = λ i. by-bool (eqb i k)
-          (λ e. rw e (λ x y. let ik = eqb-true i k e in rw (ik, tally-snoc-yes (isRequestOf k) ms (request k s) (eq-eqb k k refl))
+          (λ e. rw e (λ x y. let ik = eqb-true i k e in rw (ik, tally-snoc-yes (isRequestOf k) ms (request k a) (eq-eqb k k refl))
           (let z = quiet in by-bool (eqb (o.known k) 0) (λ f. let u = eqb-true (o.known k) 0 f in omega arith) (λ f. clash (eqb k k) (eq-eqb k k refl) (not-known k (eqb-false _ _ f))))))
-          (λ e. rw (e, tally-snoc-no (isRequestOf i) ms (request k s) e) (c .underWay .requests i));
-      handOvers = λ u. let z = c .underWay .handOvers u in let w = tally-snoc (isHandOver t.holder o.owner t.grant) ms (request k s) in omega arith;
-      fit = all-snoc _ ms (request k s) ask-all (rw (eq-eqb k k refl) (refl, refl, mk));
-      ordered = ordered-snoc ms (request k s) (λ i e. clash true refl (sym e)) (c .underWay .ordered);
+          (λ e. rw (e, tally-snoc-no (isRequestOf i) ms (request k a) e) (c .underWay .requests i));
+      handOvers = λ u. let z = c .underWay .handOvers u in let w = tally-snoc (isHandOver t.holder o.owner t.grant) ms (request k a) in omega arith;
+      fit = all-snoc _ ms (request k a) ask-all (rw (eq-eqb k k refl) (refl, refl, mk));
+      ordered = ordered-snoc ms (request k a) (λ i e. clash true refl (sym e)) (c .underWay .ordered);
     }
 
     ask-underWay′ : p .member k ≡ false → UnderWayIn p waiting o ms
@@ -104,16 +105,16 @@ module _ (p : Setting) where
     ask-owed : OwedIn p t o ms → OwedIn p waiting o ms
     unfolding waiting update
     ask-owed l = record {
-      failOwed = λ i a ne. rw (not-known i a) (l .failOwed i a ne);
+      failOwed = λ i h ne. rw (not-known i h) (l .failOwed i h ne);
       inquireOwed = λ u v x d. rw (not-known o.owner d) (l .inquireOwed u v x d);
       ascending = ascending-update p t.inquired k 0 ms (omega arith) (l .ascending);
     }
 
   -- the event
-  pub askSeen-kept : (t : Local) (k s : ℕ) (ms : List Message) → t.mode k ≡ REST → 1 ≤ s → Invariant p (view t ms) → Invariant p (askSeen p (view t ms) k s)
+  pub askSeen-kept : (t : Local) (k : ℕ) (a : Ask) (ms : List Message) → t.mode k ≡ REST → 1 ≤ a.number → Invariant p (view t ms) → Invariant p (askSeen p (view t ms) k a)
   unfolding askSeen waiting
-  askSeen-kept t k s ms w l (o, v) =
+  askSeen-kept t k a ms w l (o, v) =
       let c = v .core in
       by-bool (p .member k)
-      (λ e. rw e (o, record { freeQueueEmpty = v .freeQueueEmpty; owed = owed-send p ms (request k s) (λ i. refl) (ask-owed t k s ms w l o c (v .owed)); inquiriesFit = ask-inquiriesFit t k s ms w l o c (v .inquiriesFit); core = record { arbiter = c .arbiter; asks = ask-asks t k s ms w l o c; column = ask-column t k s ms w l o c; underWay = ask-underWay t k s ms w l o c e } }))
-      (λ e. rw e (o, record { freeQueueEmpty = v .freeQueueEmpty; owed = ask-owed t k s ms w l o c (v .owed); inquiriesFit = ask-inquiriesFit t k s ms w l o c (v .inquiriesFit); core = record { arbiter = c .arbiter; asks = ask-asks t k s ms w l o c; column = ask-column t k s ms w l o c; underWay = ask-underWay′ t k s ms w l o c e } }))
+      (λ e. rw e (o, record { freeQueueEmpty = v .freeQueueEmpty; owed = owed-send p ms (request k a) (λ i. refl) (ask-owed t k a ms w l o c (v .owed)); inquiriesFit = ask-inquiriesFit t k a ms w l o c (v .inquiriesFit); core = record { arbiter = c .arbiter; asks = ask-asks t k a ms w l o c; column = ask-column t k a ms w l o c; underWay = ask-underWay t k a ms w l o c e } }))
+      (λ e. rw e (o, record { freeQueueEmpty = v .freeQueueEmpty; owed = ask-owed t k a ms w l o c (v .owed); inquiriesFit = ask-inquiriesFit t k a ms w l o c (v .inquiriesFit); core = record { arbiter = c .arbiter; asks = ask-asks t k a ms w l o c; column = ask-column t k a ms w l o c; underWay = ask-underWay′ t k a ms w l o c e } }))

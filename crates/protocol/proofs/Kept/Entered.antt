@@ -95,7 +95,7 @@ module _ (p : Setting) where
 
   -- b enters: S4 need not hold of b before
   pub entered-kept : (t : Local) (o : Ghost) (b : ℕ) (ms : List Message) → t.mode b ≡ WAITING → (p .member b ≡ true → t.held b ≢ 0) → Core p t o ms
-      → ((k : ℕ) → k ≢ b → InquiryFits t k) → (o.stage ≡ FREE → (k : ℕ) → t.queued k ≡ 0)
+      → ((k : ℕ) → k ≢ b → InquiryFits t k) → (o.stage ≡ FREE → (k : ℕ) → (t.queued k) .number ≡ 0)
       → OwedIn p t o ms → Invariant p (entered (view t ms) b)
   unfolding entered update
   entered-kept t o b ms w h c m i lv =

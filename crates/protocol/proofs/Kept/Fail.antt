@@ -24,7 +24,7 @@ use Rattle.protocol.proofs.Kept.Yielded.{OwedBut, yielded-kept, yielder
 
 module _ (p : Setting) where
   -- the fail may have been the last thing owed to b
-  pub onFail-core : (t : Local) (o : Ghost) (b : ℕ) (ms : List Message) → Core p t o ms → ((k : ℕ) → InquiryFits t k) → (o.stage ≡ FREE → (k : ℕ) → t.queued k ≡ 0)
+  pub onFail-core : (t : Local) (o : Ghost) (b : ℕ) (ms : List Message) → Core p t o ms → ((k : ℕ) → InquiryFits t k) → (o.stage ≡ FREE → (k : ℕ) → (t.queued k) .number ≡ 0)
       → OwedBut p t o ms b
       → (o.ahead ≡ 0 → o.stage ≢ FREE → o.stage ≤ HELD → o.known o.owner ≢ 0 → headOf p t.queued ≢ 0 → beforeHolder p t (headOf p t.queued) ≡ true → t.inquired o.owner ≢ t.grant → 0 < tally (isInquire o.owner t.grant) ms)
       → ((k : ℕ) → Ascending k (t.inquired k) ms) → Invariant p (onFail p (view t ms) b)
@@ -55,7 +55,7 @@ module _ (p : Setting) where
         },
       ))
     where
-      marked-only : t.mode b ≡ WAITING → (t.inquired b ≢ 0 → t.held b ≢ 0 → ⊥) → Invariant p (view (withSites t t.mode t.seq (update t.failed b true)) ms)
+      marked-only : t.mode b ≡ WAITING → (t.inquired b ≢ 0 → t.held b ≢ 0 → ⊥) → Invariant p (view (withSites t t.mode t.ask (update t.failed b true)) ms)
       marked-only w f = (
         o,
         record {
@@ -88,15 +88,15 @@ module _ (p : Setting) where
   failSeen-kept t b ms (o, s) = onFail-core t o b ms (s .core) (s .inquiriesFit) (s .freeQueueEmpty) (λ k ne. s .owed .failOwed k) (s .owed .inquireOwed) (s .owed .ascending)
 
   -- this arbiter's own fail
-  pub onFail-kept : (t : Local) (b : ℕ) (ms : List Message) → Invariant p (view t (fail b ∷ ms)) → Invariant p (onFail p (view t ms) b)
+  pub onFail-kept : (t : Local) (b n : ℕ) (ms : List Message) → Invariant p (view t (fail b n ∷ ms)) → Invariant p (onFail p (view t ms) b)
   unfolding All Ordered tally Ascending
-  onFail-kept t b ms (o, s) =
+  onFail-kept t b n ms (o, s) =
       let v = s .core in
       let underWay = v .underWay in
       onFail-core t o b ms (record {
         arbiter = v .arbiter;
         asks = v .asks;
         column = v .column;
-        underWay = take-quiet p (fail b) ms refl (λ i. refl) (λ h x g. refl) underWay;
+        underWay = take-quiet p (fail b n) ms refl (λ i. refl) (λ h x g. refl) underWay;
       })
       (s .inquiriesFit) (s .freeQueueEmpty) (λ k ne. rw (ne-eqb k b ne) at (s .owed .failOwed k)) (s .owed .inquireOwed) (λ k. s .owed .ascending k .1)

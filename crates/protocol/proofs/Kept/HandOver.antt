@@ -10,6 +10,7 @@ use native.Mathlib.Omega.{arith}
 use lib.Dec.{eqb}
 use borrow.Author.Tests.{eqb-true, eqb-false, eq-eqb, ne-eqb}
 use Rattle.basics.specs.Helpers.{update, tally}
+use Rattle.protocol.specs.Ask.{noAsk}
 use Rattle.protocol.specs.Message.{Message, handOver, inquire, transfer}
 use Rattle.protocol.specs.Setting.{Setting, SettingLaw}
 use Rattle.protocol.specs.Local.{Local, view}
@@ -74,7 +75,7 @@ module _ (p : Setting) (law : SettingLaw p) where
   unfolding heirTakesOver tally Ascending
   heirTakesOver-kept t x stage known k n ms c inquiriesFit l =
       let v = takesOver-core t x stage known k n ms c in
-      let q1 = update t.queued x 0 in
+      let q1 = update t.queued x noAsk in
       let s0 : stage ≢ FREE = λ z. let y = c .arbiter .whenFree z .1 in omega arith in
       let mx = c .arbiter .whenTaken s0 .0 in
       let x1 = law .siteInRange x mx in
@@ -84,7 +85,7 @@ module _ (p : Setting) (law : SettingLaw p) where
       let i1 = law .siteInRange i (c .asks .knownWaits i a .1) in
       let hz : headOf p t.queued ≢ 0 = (λ y. let u = w .0 in omega arith) in
       let r = rw (w .0) at ((head-of p law t.queued (p .size)) .comesFirst hz) in
-      (head-remove p law t.queued i x (w .0) (λ y. omega arith) ne, rw (update-other t.queued x 0 i ne) (r x (x1 .0) (x1 .1) (λ y. omega arith) (λ y. ne (sym y)))) in
+      (head-remove p law t.queued i x (w .0) (λ y. omega arith) ne, rw (update-other t.queued x noAsk i ne) (r x (x1 .0) (x1 .1) (λ y. omega arith) (λ y. ne (sym y)))) in
       let m0 : (i : ℕ) → Ascending i (t.inquired i) ms = λ i. l .ascending i .1 in
       by-bool (eqb (headOf p q1) 0)
       (λ e. rw e (
@@ -144,8 +145,8 @@ module _ (p : Setting) (law : SettingLaw p) where
       (λ e. let w = and-split (eqb n t.grant) (eqb k t.holder) e in
       let y = ok .1 (eqb-true n t.grant (w .0)) in
       let ov = c .arbiter .handedOver (λ z. let u = y .2 in omega arith) in
-      let qx : 1 ≤ t.queued x = rw (y .1) (ov .0) in
-      rw (e, ne-eqb (t.queued x) 0 (λ z. omega arith))
+      let qx : 1 ≤ (t.queued x) .number = rw (y .1) (ov .0) in
+      rw (e, ne-eqb ((t.queued x) .number) 0 (λ z. omega arith))
       (heirTakesOver-kept t x o.stage o.known k n ms (fix p t o (handOver k x n ∷ ms) x 1 o.stage (y .1) (sym (y .2)) refl c) (s .inquiriesFit) (fix-owed p o.owner o.ahead o.stage x 1 o.stage (y .1) (sym (y .2)) refl (s .owed))))
       (λ e. rw e (
         o,

@@ -1,5 +1,5 @@
 -- A site leaves. If it is a member, it holds the permission. With no heir, the permission travels back in a release. With an heir, by T7
--- the arbiter is not behind and the heir is queued; it waits for the permission with its current number, and the permission travels
+-- the arbiter is not behind and the heir is queued; it waits for the permission with its current ask, and the permission travels
 -- out to it, one number ahead of the arbiter, with the hand-over under way that will tell.
 use Prim.Native.Nat.{ℕ, suc, _+_, _≤_}
 use mathlib.Core.Path.{_≡_, refl, sym, ap, _∙_}
@@ -10,11 +10,13 @@ use native.Mathlib.Omega.{arith}
 use lib.Dec.{eqb}
 use borrow.Author.Tests.{eqb-true, eqb-false, eq-eqb, ne-eqb}
 use Rattle.basics.specs.Helpers.{update, tally}
+use Rattle.protocol.specs.Ask.{noAsk}
 use Rattle.protocol.specs.Message.{Message, reply, release, handOver}
 use Rattle.protocol.specs.Setting.{Setting, SettingLaw}
 use Rattle.protocol.specs.Local.{REST, WAITING, INSIDE, Local, view, withSites, withoutEntry}
 use Rattle.basics.proofs.Basics.{by-bool, clash, update-other}
 use Rattle.basics.proofs.Lists.{tally-snoc, tally-snoc-no, tally-snoc-yes, All, all-snoc, all-map-not}
+use Rattle.protocol.proofs.Asks.{same-number}
 use Rattle.protocol.proofs.Invariant.{Ghost, OUT, HELD, RELEASED, ghost, carriesPermission, isRequestOf, isHandOver, situation, InquiryFits, Fits, Column, Core, Invariant}
 use Rattle.protocol.proofs.Sending.{ordered-snoc}
 use Rattle.protocol.proofs.Fitting.{fix, fits-change, no-request, all-stage, all-mode, row-stage}
@@ -24,7 +26,7 @@ use Rattle.protocol.proofs.Seen.{leaveSeen}
 module _ (p : Setting) (law : SettingLaw p) where
   -- the tables when k has left
   abbrev departed : Local → ℕ → Local
-  departed t k = withoutEntry (withSites t (update t.mode k REST) t.seq t.failed) k
+  departed t k = withoutEntry (withSites t (update t.mode k REST) t.ask t.failed) k
 
   -- a site leaves that does not have this arbiter in its set
   left-other-set : (t : Local) (o : Ghost) (k : ℕ) (ms : List Message) → t.mode k ≡ INSIDE → p .member k ≡ false → Core p t o ms → Core p (departed t k) o ms
@@ -79,11 +81,11 @@ module _ (p : Setting) (law : SettingLaw p) where
     unfolding update
     left-inside owner stage i = by-bool (eqb i k) (λ e. rw e (λ x. absurd (omega arith))) (λ e. rw e (λ x y. absurd (eqb-false i k e (c .asks .insideHolds i x y .0))))
 
-    left-waiting : (i : ℕ) → (departed t k) .mode i ≡ WAITING → 1 ≤ t.seq i
+    left-waiting : (i : ℕ) → (departed t k) .mode i ≡ WAITING → 1 ≤ (t.ask i) .number
     unfolding update
     left-waiting i = by-bool (eqb i k) (λ e. rw e (λ x. absurd (omega arith))) (λ e. rw e (c .asks .waitingNumbered i))
 
-    left-clear : (i : ℕ) → (departed t k) .mode i ≢ WAITING → (t.seq i ≡ 0) × (t.failed i ≡ false)
+    left-clear : (i : ℕ) → (departed t k) .mode i ≢ WAITING → (t.ask i ≡ noAsk) × (t.failed i ≡ false)
     unfolding update
     left-clear i = by-bool (eqb i k) (λ e. rw e (λ x. rw (eqb-true i k e) (c .asks .notWaitingClear k (λ z. omega arith)))) (λ e. rw e (c .asks .notWaitingClear i))
 
@@ -135,15 +137,15 @@ module _ (p : Setting) (law : SettingLaw p) where
         }
 
   -- with an heir: the permission travels on
-  left-handed-over : (t : Local) (k x : ℕ) (known : ℕ → ℕ) (ms : List Message) → t.mode k ≡ INSIDE → t.queued x ≢ 0 → Core p t (ghost k 0 HELD known) ms
+  left-handed-over : (t : Local) (k x : ℕ) (known : ℕ → ℕ) (ms : List Message) → t.mode k ≡ INSIDE → (t.queued x) .number ≢ 0 → Core p t (ghost k 0 HELD known) ms
       → Core p (departed t k) (ghost x 1 OUT known) ((ms ++ reply k x (suc (t.held k)) ∷ []) ++ handOver k x (t.held k) ∷ [])
   unfolding update Fits
   left-handed-over t k x known ms w qx c =
       let busy = c .arbiter .whenTaken (λ y. omega arith) in
       let hk : k ≡ t.holder = c .arbiter .ownerIsHolder refl in
-      let qk : t.queued k ≡ 0 = rw hk (c .arbiter .holderNotQueued) in
-      let xk : x ≢ k = λ z. qx (rw z qk) in
-      let kx : known x ≢ 0 = λ z. qx (c .asks .emptyIfUnknown x xk z) in
+      let qk : t.queued k ≡ noAsk = rw hk (c .arbiter .holderNotQueued) in
+      let xk : x ≢ k = λ z. qx (rw z (same-number qk)) in
+      let kx : known x ≢ 0 = λ z. qx (same-number (c .asks .emptyIfUnknown x xk z)) in
       let r = law .siteInRange t.holder (busy .1) in
       let kr = law .siteInRange k (busy .0) in
       let nu : t.held k ≡ t.grant + 0 = c .column .number refl in

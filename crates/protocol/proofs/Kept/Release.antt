@@ -9,6 +9,7 @@ use native.Mathlib.Omega.{arith}
 use lib.Dec.{eqb}
 use borrow.Author.Tests.{eqb-true, eqb-false, eq-eqb, ne-eqb}
 use Rattle.basics.specs.Helpers.{update, tally}
+use Rattle.protocol.specs.Ask.{noAsk, isNoAsk}
 use Rattle.protocol.specs.Message.{Message, release}
 use Rattle.protocol.specs.Setting.{Setting, SettingLaw}
 use Rattle.protocol.specs.Local.{Local, view}
@@ -44,9 +45,9 @@ module _ (p : Setting) (law : SettingLaw p) where
       (λ e. let d0 = eqb-false d 0 e in
       let ov = c .arbiter .handedOver d0 in
       let not-now : fromHolder t k n ≡ false = by-bool (fromHolder t k n) (λ u. let z = eqb-true n t.grant (and-split (eqb n t.grant) (eqb k t.holder) u .0) in absurd (omega arith)) (λ u. u) in
-      let early : isEarly t k n ≡ true = and-true (eqb n (suc t.grant)) (not (eqb (t.queued k) 0)) (eq-eqb n (suc t.grant) (omega arith)) (not-of (eqb (t.queued k) 0) (ne-eqb (t.queued k) 0 (λ z. omega arith))) in
+      let early : isEarly t k n ≡ true = and-true (eqb n (suc t.grant)) (not (isNoAsk (t.queued k))) (eq-eqb n (suc t.grant) (omega arith)) (not-of (isNoAsk (t.queued k)) (ne-eqb ((t.queued k) .number) 0 (λ z. omega arith))) in
       rw (not-now, early)
-      (grantedHead-kept p law _ known ms (returned-core p law t k d RELEASED known ms (suc t.grant) (update t.queued k 0) (λ z. omega arith) (λ z. omega arith) (omega arith) (λ i ne. rw (ne-eqb i k ne)) (λ z. absurd (z kk)) (λ z. rw (eq-eqb k k refl))
+      (grantedHead-kept p law _ known ms (returned-core p law t k d RELEASED known ms (suc t.grant) (update t.queued k noAsk) (λ z. omega arith) (λ z. omega arith) (omega arith) (λ i ne. rw (ne-eqb i k ne)) (λ z. absurd (z kk)) (λ z. rw (eq-eqb k k refl))
       (c .arbiter) (c .asks) (c .column) (omega arith) (c .underWay .requests) (c .underWay .fit .1) (c .underWay .ordered .1)) inquiriesFit
       (record { failOwed = λ i x f z. head-remove p law t.queued i k (l .failOwed i x (ik i x) f z .0) (λ y. let w = law .siteInRange i (c .asks .knownWaits i x .1) in omega arith) (ik i x); ascending = λ i. l .ascending i .1 })))
 

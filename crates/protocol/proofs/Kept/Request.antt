@@ -10,12 +10,14 @@ use native.Mathlib.Omega.{arith}
 use lib.Dec.{eqb}
 use borrow.Author.Tests.{eqb-true, eqb-false, eq-eqb, ne-eqb}
 use Rattle.basics.specs.Helpers.{update, tally}
+use Rattle.protocol.specs.Ask.{Ask, noAsk}
 use Rattle.protocol.specs.Message.{Message, request, inquire, fail, transfer}
 use Rattle.protocol.specs.Setting.{Setting, SettingLaw}
 use Rattle.protocol.specs.Local.{WAITING, Local, view, send, withArbiter}
-use Rattle.protocol.specs.Arbiter.{headOf, beforeHolder, granted, formerTold, failFormer, inquireOrFail, answers, queuedUp, onRequest}
+use Rattle.protocol.specs.Arbiter.{headOf, beforeHolder, granted, failTo, formerTold, failFormer, inquireOrFail, answers, queuedUp, onRequest}
 use Rattle.basics.proofs.Basics.{by-bool, clash, and-true, not-of, update-same, update-other, update-update}
 use Rattle.basics.proofs.Lists.{All, all-map, snoc-pos, snoc-keep, snoc-zero, snoc-none, tally-mono}
+use Rattle.protocol.proofs.Asks.{same-number}
 use Rattle.protocol.proofs.Invariant.{Ghost, FREE, OUT, HELD, YIELDED, RELEASED, ghost, carriesPermission, isRequestOf, isReturnOf, isHandOver, isFailTo, isInquire, Ordered, Ascending, situation, InquiryFits, Fits, Owed, OwedIn, UnderWayIn, Core, Invariant}
 use Rattle.protocol.proofs.Sending.{send-fail, send-inquire, send-transfer}
 use Rattle.protocol.proofs.Fitting.{handOver-returns, fix, permission-returns, fits-change}
@@ -24,14 +26,15 @@ use Rattle.protocol.proofs.Head.{head-of, head-is, head-insert}
 use Rattle.protocol.proofs.Kept.Granted.{OwedWhenFree, queued-member, granted-kept}
 
 module _ (p : Setting) (law : SettingLaw p) where
-  module _ (t : Local) (o : Ghost) (k n : ℕ) (ms : List Message) (c : Core p t o (request k n ∷ ms)) where
+  module _ (t : Local) (o : Ghost) (k : ℕ) (new : Ask) (ms : List Message) (c : Core p t o (request k new ∷ ms)) where
     -- k is not known, has no other request and no return under way
-    new-request : (o.known k ≡ 0) × (tally (isRequestOf k) ms ≡ 0) × (tally (isReturnOf k) ms ≡ 0) × (1 ≤ k) × (1 ≤ n)
+    new-request : (o.known k ≡ 0) × (tally (isRequestOf k) ms ≡ 0) × (tally (isReturnOf k) ms ≡ 0) × (1 ≤ k) × (1 ≤ new.number)
     unfolding All Fits Ordered tally
     new-request =
         let ok = c .underWay .fit .0 in
         let r = rw (eq-eqb k k refl) at (c .underWay .requests k (ok .0) (ok .2)) in
         let w = c .asks .waitingNumbered k (ok .0) in
+        let n = same-number (ok .1) in
         (omega arith, omega arith, c .underWay .ordered .0 k (eq-eqb k k refl), law .siteInRange k (ok .2) .0, omega arith)
 
     -- k is not the owner
@@ -67,12 +70,12 @@ module _ (p : Setting) (law : SettingLaw p) where
         omega arith)
 
     -- k is queued
-    queued-core : Core p (withArbiter t t.grant t.holder t.holderSeq (update t.queued k n)) (ghost o.owner o.ahead o.stage (update o.known k 1)) ms
+    queued-core : Core p (withArbiter t t.grant t.holder t.holderAsk (update t.queued k new)) (ghost o.owner o.ahead o.stage (update o.known k 1)) ms
     unfolding update All Fits Ordered tally
     queued-core =
         let ok = c .underWay .fit .0 in
         let f = new-request in
-        let n0 : n ≢ 0 = λ z. omega arith in
+        let n0 : new.number ≢ 0 = λ z. omega arith in
         let ow = ne-eqb o.owner k (λ z. not-own (sym z)) in
         let ho = ne-eqb t.holder k (λ z. not-holder (sym z)) in
         record {
@@ -106,7 +109,7 @@ module _ (p : Setting) (law : SettingLaw p) where
         }
 
   -- with a holder: only messages that carry nothing go out. All but k were told or will be, or the former head is told now.
-  answers-kept : (t : Local) (o : Ghost) (k old : ℕ) (ms : List Message) → Core p t o ms → ((i : ℕ) → InquiryFits t i) → o.stage ≢ FREE → t.queued k ≢ 0 → (old ≢ 0 → t.queued old ≢ 0)
+  answers-kept : (t : Local) (o : Ghost) (k old : ℕ) (ms : List Message) → Core p t o ms → ((i : ℕ) → InquiryFits t i) → o.stage ≢ FREE → (t.queued k) .number ≢ 0 → (old ≢ 0 → (t.queued old) .number ≢ 0)
       → headOf p t.queued ≡ k → ((i : ℕ) → o.known i ≢ 0 → i ≢ o.owner → i ≢ k → t.failed i ≡ false → tally (isFailTo i) ms ≡ 0 → (old ≡ i) × (beforeHolder p t i ≡ true)) → ((i : ℕ) → Ascending i (t.inquired i) ms)
       → Invariant p (answers p (view t ms) k old)
   unfolding answers failFormer inquireOrFail
@@ -115,18 +118,18 @@ module _ (p : Setting) (law : SettingLaw p) where
       let mk = queued-member p law t o ms c k qk in
       let ek = eq-eqb (headOf p t.queued) k hk in
       by-bool (formerTold p t k old)
-      (λ e. rw (ek, e) (rest _ mk busy (send-fail p ms old (queued-member p law t o ms c old (qo (λ z. let y : eqb old 0 ≡ true = eq-eqb old 0 z in clash true refl (sym (rw y at e))))) (c .underWay))
-      (λ i a ne nk f z. snoc-none (isFailTo i) ms (fail old) (eq-eqb i old (sym (ow i a ne nk f (snoc-zero (isFailTo i) ms (fail old) z) .0))) z)
-      (λ i. ascending-other i (t.inquired i) ms (fail old) refl (ascending i))))
+      (λ e. rw (ek, e) (rest _ mk busy (send-fail p ms old _ (queued-member p law t o ms c old (qo (λ z. let y : eqb old 0 ≡ true = eq-eqb old 0 z in clash true refl (sym (rw y at e))))) (c .underWay))
+      (λ i a ne nk f z. snoc-none (isFailTo i) ms (failTo p t old) (eq-eqb i old (sym (ow i a ne nk f (snoc-zero (isFailTo i) ms (failTo p t old) z) .0))) z)
+      (λ i. ascending-other i (t.inquired i) ms (failTo p t old) refl (ascending i))))
       (λ e. rw (ek, e) (rest _ mk busy (c .underWay)
       (λ i a ne nk f z. let w = ow i a ne nk f z in let i1 = law .siteInRange i (c .asks .knownWaits i a .1) in let oi = w .0 in
       clash (formerTold p t k old)
       (rw oi (and-true (not (eqb i 0)) (not (eqb i k) && beforeHolder p t i) (not-of (eqb i 0) (ne-eqb i 0 (λ y. omega arith))) (and-true (not (eqb i k)) (beforeHolder p t i) (not-of (eqb i k) (ne-eqb i k nk)) (w .1)))) e)
       ascending))
     where
-      rest : (ms′ : List Message) → p .member k ≡ true → (p .member o.owner ≡ true) × (p .member t.holder ≡ true) × (1 ≤ t.holderSeq) × (1 ≤ t.grant) → UnderWayIn p t o ms′
+      rest : (ms′ : List Message) → p .member k ≡ true → (p .member o.owner ≡ true) × (p .member t.holder ≡ true) × (1 ≤ t.holderAsk.number) × (1 ≤ t.grant) → UnderWayIn p t o ms′
           → ((i : ℕ) → o.known i ≢ 0 → i ≢ o.owner → i ≢ k → t.failed i ≡ false → tally (isFailTo i) ms′ ≡ 0 → ⊥) → ((i : ℕ) → Ascending i (t.inquired i) ms′)
-          → Invariant p (cond (beforeHolder p t k) (send (send (view t ms′) (transfer t.holder k t.grant)) (inquire t.holder t.grant)) (send (send (view t ms′) (transfer t.holder k t.grant)) (fail k)))
+          → Invariant p (cond (beforeHolder p t k) (send (send (view t ms′) (transfer t.holder k t.grant)) (inquire t.holder t.grant)) (send (send (view t ms′) (transfer t.holder k t.grant)) (failTo p t k)))
       rest ms′ mk busy m none-owed asc′ =
           let m1 = send-transfer p ms′ t.holder k t.grant (busy .3) (omega arith) refl qk (busy .1) mk m in
           let tr = transfer t.holder k t.grant in
@@ -155,95 +158,95 @@ module _ (p : Setting) (law : SettingLaw p) where
               freeQueueEmpty = λ z. absurd (s0 z);
               owed = record {
                 failOwed = λ i a ne f z. by-bool (eqb i k)
-                    (λ y. snoc-none (isFailTo i) ms1 (fail k) y z)
-                    (λ y. absurd (none-owed i a ne (eqb-false i k y) f (snoc-zero (isFailTo i) ms′ tr (snoc-zero (isFailTo i) ms1 (fail k) z))));
+                    (λ y. snoc-none (isFailTo i) ms1 (failTo p t k) y z)
+                    (λ y. absurd (none-owed i a ne (eqb-false i k y) f (snoc-zero (isFailTo i) ms′ tr (snoc-zero (isFailTo i) ms1 (failTo p t k) z))));
                 inquireOwed = λ a b d y hd z. clash (beforeHolder p t k) (rw hk at z) e;
-                ascending = λ i. ascending-other i (t.inquired i) ms1 (fail k) refl (a1 i);
+                ascending = λ i. ascending-other i (t.inquired i) ms1 (failTo p t k) refl (a1 i);
               };
-              core = record { arbiter = c .arbiter; asks = c .asks; column = c .column; underWay = send-fail p _ k mk m1 };
+              core = record { arbiter = c .arbiter; asks = c .asks; column = c .column; underWay = send-fail p _ k _ mk m1 };
             },
           ))
 
   -- who was queued is queued
-  still-queued : (t : Local) (k n i : ℕ) → 1 ≤ n → t.queued i ≢ 0 → update t.queued k n i ≢ 0
+  still-queued : (t : Local) (k : ℕ) (new : Ask) (i : ℕ) → 1 ≤ new.number → (t.queued i) .number ≢ 0 → (update t.queued k new i) .number ≢ 0
   unfolding update
-  still-queued t k n i l y = by-bool (eqb i k) (λ e. rw e (λ z. omega arith)) (λ e. rw e y)
+  still-queued t k new i l y = by-bool (eqb i k) (λ e. rw e (λ z. omega arith)) (λ e. rw e y)
 
   -- without a holder the arbiter grants at once
-  granted-at-once : (t : Local) (o : Ghost) (k n : ℕ) (ms : List Message) → Core p t o (request k n ∷ ms) → Core p (withArbiter t t.grant t.holder t.holderSeq (update t.queued k n)) (ghost o.owner o.ahead o.stage (update o.known k 1)) ms
-      → ((i : ℕ) → InquiryFits t i) → (o.stage ≡ FREE → (i : ℕ) → t.queued i ≡ 0) → ((i : ℕ) → Ascending i (t.inquired i) ms) → t.holder ≡ 0 → Invariant p (granted p (view t ms) k n)
+  granted-at-once : (t : Local) (o : Ghost) (k : ℕ) (new : Ask) (ms : List Message) → Core p t o (request k new ∷ ms) → Core p (withArbiter t t.grant t.holder t.holderAsk (update t.queued k new)) (ghost o.owner o.ahead o.stage (update o.known k 1)) ms
+      → ((i : ℕ) → InquiryFits t i) → (o.stage ≡ FREE → (i : ℕ) → (t.queued i) .number ≡ 0) → ((i : ℕ) → Ascending i (t.inquired i) ms) → t.holder ≡ 0 → Invariant p (granted p (view t ms) k new)
   unfolding granted All Fits update
-  granted-at-once t o k n ms c v inquiriesFit freeQueueEmpty ascending h0 =
+  granted-at-once t o k new ms c v inquiriesFit freeQueueEmpty ascending h0 =
       let ok = c .underWay .fit .0 in
       let s0 : o.stage ≡ FREE = by-bool (eqb o.stage FREE) (λ e. eqb-true o.stage FREE e) (λ e. let y = law .siteInRange t.holder (c .arbiter .whenTaken (eqb-false o.stage FREE e) .1) in absurd (omega arith)) in
       let fr = c .arbiter .whenFree s0 in
-      let n1 : 1 ≤ n = let w = c .asks .waitingNumbered k (ok .0) in let y = ok .1 in omega arith in
+      let n1 : 1 ≤ new.number = let w = c .asks .waitingNumbered k (ok .0) in let y = same-number (ok .1) in omega arith in
       let k1 = law .siteInRange k (ok .2) in
       let v1 = fix p _ _ ms 0 0 FREE (sym (fr .0)) (sym (fr .1)) (sym s0) v in
-      let hk : headOf p (update t.queued k n) ≡ k = head-is p law (update t.queued k n) k (k1 .0) (k1 .1) (rw (eq-eqb k k refl) (λ z. omega arith))
+      let hk : headOf p (update t.queued k new) ≡ k = head-is p law (update t.queued k new) k (k1 .0) (k1 .1) (rw (eq-eqb k k refl) (λ z. omega arith))
       (λ i lo hi q0 ne. absurd (q0 (rw (ne-eqb i k ne) (freeQueueEmpty s0 i)))) in
-      let hm : OwedWhenFree p (update t.queued k n) t.failed t.inquired (update o.known k 1) ms = record {
+      let hm : OwedWhenFree p (update t.queued k new) t.failed t.inquired (update o.known k 1) ms = record {
         ascending = ascending;
         failOwed = λ i. by-bool (eqb i k)
             (λ e. rw e (λ x f z. hk ∙ sym (eqb-true i k e)))
-            (λ e. rw e (λ x f z. let i1 = law .siteInRange i (c .asks .knownWaits i x .1) in let y = c .asks .queuedIfKnown i (λ u. let w = fr .0 in omega arith) x in let w = c .asks .waitingNumbered i (c .asks .knownWaits i x .0) in let q0 = freeQueueEmpty s0 i in absurd (omega arith)));
+            (λ e. rw e (λ x f z. let i1 = law .siteInRange i (c .asks .knownWaits i x .1) in let y = same-number (c .asks .queuedIfKnown i (λ u. let w = fr .0 in omega arith) x) in let w = c .asks .waitingNumbered i (c .asks .knownWaits i x .0) in let q0 = freeQueueEmpty s0 i in absurd (omega arith)));
       } in
-      let r = granted-kept p law (withArbiter t t.grant t.holder t.holderSeq (update t.queued k n)) (update o.known k 1) k n ms v1 inquiriesFit (rw (eq-eqb k k refl) (λ z. omega arith)) (rw (eq-eqb k k refl)) (sym (ok .1)) hk hm in
-      rw (update-update t.queued k n 0) at r
+      let r = granted-kept p law (withArbiter t t.grant t.holder t.holderAsk (update t.queued k new)) (update o.known k 1) k new ms v1 inquiriesFit (rw (eq-eqb k k refl) (λ z. omega arith)) (rw (eq-eqb k k refl)) (sym (ok .1)) hk hm in
+      rw (update-update t.queued k new noAsk) at r
 
   -- k is not the head: it is told
-  failed-owed : (t : Local) (o : Ghost) (k n : ℕ) (ms : List Message) → Core p t o (request k n ∷ ms) → OwedIn p t o (request k n ∷ ms) → headOf p (update t.queued k n) ≢ k
-      → Owed p t.grant t.holder t.holderSeq (update t.queued k n) t.failed t.inquired o.owner o.ahead o.stage (update o.known k 1) (ms ++ fail k ∷ [])
+  failed-owed : (t : Local) (o : Ghost) (k : ℕ) (new : Ask) (n : ℕ) (ms : List Message) → Core p t o (request k new ∷ ms) → OwedIn p t o (request k new ∷ ms) → headOf p (update t.queued k new) ≢ k
+      → Owed p t.grant t.holder t.holderAsk (update t.queued k new) t.failed t.inquired o.owner o.ahead o.stage (update o.known k 1) (ms ++ fail k n ∷ [])
   unfolding All Fits tally Ascending
-  failed-owed t o k n ms c l ne =
+  failed-owed t o k new n ms c l ne =
       let ok = c .underWay .fit .0 in
-      let f = new-request t o k n ms c in
-      let no = not-own t o k n ms c in
+      let f = new-request t o k new ms c in
+      let no = not-own t o k new ms c in
       let k1 = law .siteInRange k (ok .2) in
-      let same = head-insert p law t.queued k n (c .asks .emptyIfUnknown k no (f .0)) (λ z. omega arith) (k1 .0) (k1 .1) ne in
+      let same = head-insert p law t.queued k new (same-number (c .asks .emptyIfUnknown k no (f .0))) (λ z. omega arith) (k1 .0) (k1 .1) ne in
       let ko : update o.known k 1 o.owner ≡ o.known o.owner = update-other o.known k 1 o.owner (λ z. no (sym z)) in
       record {
         failOwed = λ i a ni fi z. by-bool (eqb i k)
-            (λ e. snoc-none (isFailTo i) ms (fail k) e z)
+            (λ e. snoc-none (isFailTo i) ms (fail k n) e z)
             (λ e. let nk = eqb-false i k e in
-            let w = l .failOwed i (rw (update-other o.known k 1 i nk) at a) ni fi (snoc-zero (isFailTo i) ms (fail k) z) in
-            (sym same ∙ w .0, rw (update-other t.queued k n i nk) (w .1)));
-        inquireOwed = λ u v x d hd b g1. snoc-keep (isInquire o.owner t.grant) ms (fail k) (l .inquireOwed u v x (rw ko at d) (λ z. hd (sym same ∙ z))
-            (rw same (rw (update-other t.queued k n (headOf p (update t.queued k n)) ne) at b)) g1);
-        ascending = λ i. ascending-other i (t.inquired i) ms (fail k) refl (l .ascending i .1);
+            let w = l .failOwed i (rw (update-other o.known k 1 i nk) at a) ni fi (snoc-zero (isFailTo i) ms (fail k n) z) in
+            (sym same ∙ w .0, rw (update-other t.queued k new i nk) (w .1)));
+        inquireOwed = λ u v x d hd b g1. snoc-keep (isInquire o.owner t.grant) ms (fail k n) (l .inquireOwed u v x (rw ko at d) (λ z. hd (sym same ∙ z))
+            (rw same (rw (update-other t.queued k new (headOf p (update t.queued k new)) ne) at b)) g1);
+        ascending = λ i. ascending-other i (t.inquired i) ms (fail k n) refl (l .ascending i .1);
       }
 
   -- the rule
-  pub onRequest-kept : (t : Local) (k n : ℕ) (ms : List Message) → Invariant p (view t (request k n ∷ ms)) → Invariant p (onRequest p (view t ms) k n)
+  pub onRequest-kept : (t : Local) (k : ℕ) (new : Ask) (ms : List Message) → Invariant p (view t (request k new ∷ ms)) → Invariant p (onRequest p (view t ms) k new)
   unfolding onRequest queuedUp answers Ascending tally
-  onRequest-kept t k n ms (o, s) =
+  onRequest-kept t k new ms (o, s) =
       let c = s .core in
-      let v = queued-core t o k n ms c in
-      let f = new-request t o k n ms c in
-      let q1 = update t.queued k n in
-      let qk : q1 k ≡ n = update-same t.queued k n in
+      let v = queued-core t o k new ms c in
+      let f = new-request t o k new ms c in
+      let q1 = update t.queued k new in
+      let qk : (q1 k) .number ≡ new.number = same-number (update-same t.queued k new) in
       let ascending : (i : ℕ) → Ascending i (t.inquired i) ms = λ i. s .owed .ascending i .1 in
       by-bool (eqb t.holder 0)
-      (λ e. rw e (granted-at-once t o k n ms c v (s .inquiriesFit) (s .freeQueueEmpty) ascending (eqb-true t.holder 0 e)))
+      (λ e. rw e (granted-at-once t o k new ms c v (s .inquiriesFit) (s .freeQueueEmpty) ascending (eqb-true t.holder 0 e)))
       (λ e. let h0 = eqb-false t.holder 0 e in
       let s0 : o.stage ≢ FREE = λ z. let y = c .arbiter .whenFree z in let w = c .arbiter .ownerIsHolder (y .1) in omega arith in
       by-bool (eqb (headOf p q1) k)
       (λ g. rw e (answers-kept _ (ghost o.owner o.ahead o.stage (update o.known k 1)) k (headOf p t.queued) ms v (s .inquiriesFit) s0 (λ z. omega arith)
-      (λ z. still-queued t k n (headOf p t.queued) (f .4) ((head-of p law t.queued (p .size)) .found z .2))
+      (λ z. still-queued t k new (headOf p t.queued) (f .4) ((head-of p law t.queued (p .size)) .found z .2))
       (eqb-true (headOf p q1) k g)
-      (λ i a ne nk fi z. let w = s .owed .failOwed i (rw (update-other o.known k 1 i nk) at a) ne fi z in (w .0, rw (beforeHolder, update-other t.queued k n i nk) (w .1)))
+      (λ i a ne nk fi z. let w = s .owed .failOwed i (rw (update-other o.known k 1 i nk) at a) ne fi z in (w .0, rw (beforeHolder, update-other t.queued k new i nk) (w .1)))
       ascending))
       (λ g. rw (e, g) (
         ghost o.owner o.ahead o.stage (update o.known k 1),
         record {
           inquiriesFit = s .inquiriesFit;
           freeQueueEmpty = λ z. absurd (s0 z);
-          owed = failed-owed t o k n ms c (s .owed) (eqb-false (headOf p q1) k g);
+          owed = failed-owed t o k new _ ms c (s .owed) (eqb-false (headOf p q1) k g);
           core = record {
             arbiter = v .arbiter;
             asks = v .asks;
             column = v .column;
-            underWay = send-fail p ms k (queued-member p law _ _ _ v k (λ z. omega arith)) (v .underWay);
+            underWay = send-fail p ms k _ (queued-member p law _ _ _ v k (λ z. omega arith)) (v .underWay);
           };
         },
       )))

@@ -9,6 +9,7 @@ use native.Mathlib.Omega.{arith}
 use lib.Dec.{eqb}
 use borrow.Author.Tests.{eqb-true, eqb-false}
 use Rattle.basics.specs.Helpers.{all, tally}
+use Rattle.protocol.specs.Ask.{Ask, noAsk}
 use Rattle.protocol.specs.Message.{Message}
 use Rattle.protocol.specs.Setting.{Setting, SettingLaw}
 use Rattle.protocol.specs.Local.{WAITING, Local, withArbiter}
@@ -20,11 +21,11 @@ use Rattle.protocol.proofs.Fitting.{fits-change}
 
 module _ (p : Setting) (law : SettingLaw p) where
   -- k had the permission; g′ and q′ are the new grant number and queue
-  pub returned-core : (t : Local) (k d stage : ℕ) (known : ℕ → ℕ) (ms : List Message) (g′ : ℕ) (q′ : ℕ → ℕ) → stage ≢ FREE → stage ≢ HELD → g′ ≡ t.grant + d
-      → ((i : ℕ) → i ≢ k → q′ i ≡ t.queued i) → (known k ≢ 0 → q′ k ≡ t.seq k) → (known k ≡ 0 → q′ k ≡ 0)
-      → ArbiterRow p t.grant t.holder t.holderSeq t.queued k d stage → Asks p t.holderSeq t.queued t.mode t.seq t.failed k d stage known → Column p t.grant t.queued t.mode t.held t.heir t.inquired k d stage
+  pub returned-core : (t : Local) (k d stage : ℕ) (known : ℕ → ℕ) (ms : List Message) (g′ : ℕ) (q′ : ℕ → Ask) → stage ≢ FREE → stage ≢ HELD → g′ ≡ t.grant + d
+      → ((i : ℕ) → i ≢ k → q′ i ≡ t.queued i) → (known k ≢ 0 → q′ k ≡ t.ask k) → (known k ≡ 0 → q′ k ≡ noAsk)
+      → ArbiterRow p t.grant t.holder t.holderAsk t.queued k d stage → Asks p t.holderAsk t.queued t.mode t.ask t.failed k d stage known → Column p t.grant t.queued t.mode t.held t.heir t.inquired k d stage
       → tally carriesPermission ms ≡ 0 → ((i : ℕ) → t.mode i ≡ WAITING → p .member i ≡ true → tally (isRequestOf i) ms + known i ≡ 1) → All (Fits p (situation t k d stage)) ms → Ordered ms
-      → Core p (withArbiter t g′ 0 0 q′) (ghost 0 0 FREE known) ms
+      → Core p (withArbiter t g′ 0 noAsk q′) (ghost 0 0 FREE known) ms
   returned-core t k d stage known ms g′ q′ s0 s2 gd qo qy qn a b c permissions requests all ordered =
       let k1 = law .siteInRange k (a .whenTaken s0 .0) in
       let known-none : known 0 ≡ 0 = by-bool (eqb (known 0) 0) (λ e. eqb-true (known 0) 0 e) (λ e. let y = law .siteInRange 0 (b .knownWaits 0 (eqb-false (known 0) 0 e) .1) in absurd (omega arith)) in

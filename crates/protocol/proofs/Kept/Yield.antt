@@ -1,5 +1,5 @@
 -- A yield arrives. It is the permission (T3): the holder's, with the grant number. The holder, which waits and is failed, goes back on
--- the queue with its current number. A site that has not been failed stays the head (L1), also before the yielder.
+-- the queue with its current ask. A site that has not been failed stays the head (L1), also before the yielder.
 use Prim.Native.Nat.{ℕ}
 use mathlib.Core.Path.{_≡_, refl, sym}
 use mathlib.Core.Logic.{_≢_}
@@ -34,7 +34,7 @@ module _ (p : Setting) (law : SettingLaw p) where
       let kh : k ≡ t.holder = c .arbiter .ownerIsHolder refl in
       let now : fromHolder t k n ≡ true = and-true (eqb n t.grant) (eqb k t.holder) (eq-eqb n t.grant (omega arith)) (eq-eqb k t.holder kh) in
       rw now
-      (grantedHead-kept p law _ known ms (returned-core p law t k 0 YIELDED known ms t.grant (update t.queued k t.holderSeq) (λ z. omega arith) (λ z. omega arith) (omega arith) (λ i ne. rw (ne-eqb i k ne)) (λ z. rw (eq-eqb k k refl) (c .asks .ownerEntry kk .0 refl)) (λ z. absurd (kk z))
+      (grantedHead-kept p law _ known ms (returned-core p law t k 0 YIELDED known ms t.grant (update t.queued k t.holderAsk) (λ z. omega arith) (λ z. omega arith) (omega arith) (λ i ne. rw (ne-eqb i k ne)) (λ z. rw (eq-eqb k k refl) (c .asks .ownerEntry kk .0 refl)) (λ z. absurd (kk z))
       (c .arbiter) (c .asks) (c .column) (omega arith) (c .underWay .requests) (c .underWay .fit .1) (c .underWay .ordered .1)) inquiriesFit
       (record {
         ascending = λ i. l .ascending i .1;
@@ -45,7 +45,7 @@ module _ (p : Setting) (law : SettingLaw p) where
             let i1 = law .siteInRange i (c .asks .knownWaits i x .1) in
             let hz : headOf p t.queued ≢ 0 = λ y. let v = w .0 in omega arith in
             let a = rw (w .0) at (r .comesFirst hz) in
-            head-is p law (update t.queued k t.holderSeq) i (i1 .0) (i1 .1) (rw e (rw (w .0) at (r .found hz .2)))
+            head-is p law (update t.queued k t.holderAsk) i (i1 .0) (i1 .1) (rw e (rw (w .0) at (r .found hz .2)))
             (λ m lo hi. by-bool (eqb m k) (λ b. rw (b, e) (λ q0 nm. rw (eqb-true m k b, kh) (w .1))) (λ b. rw (b, e) (a m lo hi))));
       }))
 
