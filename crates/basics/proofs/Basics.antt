@@ -8,7 +8,7 @@ use native.Mathlib.Nat.{not-suc-le-zero}
 use native.Mathlib.Numerals.{add-one}
 use lib.Dec.{eqb}
 use borrow.Author.Tests.{eqb-true, eqb-false, eq-eqb, ne-eqb}
-use Rattle.basics.specs.Helpers.{update, all, any, count}
+use Rattle.basics.specs.Helpers.{update, all, any, count, lowest}
 
 -- the case split on a test, with its equation
 pub by-bool {ℓ} : {C : Type ℓ} (b : Bool) → (b ≡ true → C) → (b ≡ false → C) → C
@@ -128,6 +128,40 @@ any-of p (suc n) k a b e =
 
 pub any-none : (p : ℕ → Bool) (n : ℕ) → ((k : ℕ) → 1 ≤ k → k ≤ n → p k ≡ false) → any p n ≡ false
 any-none p n h = by-bool (any p n) (λ t. let w = any-at p n t in clash (p (w .0)) (w .3) (h (w .0) (w .1) (w .2))) (λ t. t)
+
+-- one more that fails, as a loop's turn has it
+pub lowest-more : (p : ℕ → Bool) (i : ℕ) → lowest p i ≡ 0 → p (suc i) ≡ false → lowest p (i + 1) ≡ 0
+unfolding lowest
+lowest-more p i e f = rw (add-one, e, f)
+
+-- the one after those that fail
+pub lowest-found : (p : ℕ → Bool) (i n : ℕ) → lowest p i ≡ 0 → p (suc i) ≡ true → suc i ≤ n → lowest p n ≡ suc i
+unfolding lowest
+lowest-found p i zero e t h = absurd (omega arith)
+lowest-found p i (suc n) e t h =
+    by-bool (eqb i n)
+    (λ q. let w = eqb-true i n q in rw (← w) (rw (e, t)))
+    (λ q. let w = eqb-false i n q in rw (lowest-found p i n e t (omega arith), ne-eqb (suc i) 0 (λ z. omega arith)))
+
+-- it is one of 1 to n, or 0
+pub lowest-within : (p : ℕ → Bool) (n r : ℕ) → r ≡ lowest p n → r ≤ n
+unfolding lowest
+lowest-within p zero r e = omega arith
+lowest-within p (suc n) r e =
+    let w = lowest-within p n (lowest p n) refl in
+    by-bool (eqb (lowest p n) 0)
+    (λ z. by-bool (p (suc n)) (λ t. let u = rw (z, t) at e in omega arith) (λ t. let u = rw (z, t) at e in omega arith))
+    (λ z. let u = rw z at e in omega arith)
+
+-- all pass exactly where there is no lowest that fails
+pub all-lowest : (p : ℕ → Bool) (n : ℕ) → all p n ≡ eqb (lowest (λ k. not (p k)) n) 0
+unfolding all lowest
+all-lowest p zero = refl
+all-lowest p (suc n) =
+    rw (all-lowest p n)
+    (by-bool (eqb (lowest (λ k. not (p k)) n) 0)
+    (λ z. by-bool (p (suc n)) (λ t. rw (z, t)) (λ t. rw (z, t) (sym (ne-eqb (suc n) 0 (λ w. omega arith)))))
+    (λ z. rw z (sym z)))
 
 pub count-none : (f : ℕ → Bool) (n : ℕ) → ((k : ℕ) → f k ≡ false) → count f n ≡ 0
 unfolding count

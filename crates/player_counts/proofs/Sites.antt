@@ -1,19 +1,18 @@
 -- Laws of the site inside and of the count waiting, site by site.
-use Prim.Native.Nat.{ℕ, zero, suc, _+_, _≤_, min}
+use Prim.Native.Nat.{ℕ, zero, suc, _≤_, min}
 use mathlib.Core.Path.{_≡_, refl, sym, _∙_, ap}
-use mathlib.Core.Bool.{Bool, true, false}
+use mathlib.Core.Bool.{Bool}
 use native.Mathlib.Omega.{arith}
-use native.Mathlib.Numerals.{add-one}
 use lib.Dec.{eqb, leb}
 use lib.ListN.{length}
-use borrow.Author.Tests.{eqb-true, eqb-false, ne-eqb, leb-true, leb-false}
+use borrow.Author.Tests.{eqb-true, leb-true, leb-false}
 use Rattle.rig.specs.Limits.{siteLimit}
 use Rattle.rig.specs.declared.Site.{Site}
 use Rattle.rig.specs.declared.Mode.the-variants.{Rest}
 use Rattle.basics.specs.Helpers.{count, lowest}
 use Rattle.basics.proofs.Basics.{by-bool}
 use Rattle.model.specs.Setup.{restingSite}
-use Rattle.model.specs.State.{Tables, modeOf, isInside, isWaiting}
+use Rattle.model.specs.State.{Tables, modeOf, isWaiting}
 use Rattle.model.specs.Run.{waitingCount}
 use Rattle.model.specs.Printed.{insideUpTo}
 use Rattle.model.proofs.Tables.{at-past}
@@ -29,21 +28,6 @@ inside-same t (suc n) = rw (inside-same t n)
 pub waiting-same : (t : Tables) → waitingCount (tablesOf (t .rig)) ≡ waitingCount t
 unfolding waitingCount
 waiting-same t = refl
-
-module _ (t : Tables) where
-  -- one site more, that is not inside
-  pub inside-more : (i : ℕ) → insideUpTo t i ≡ 0 → isInside (modeOf t (suc i)) ≡ false → insideUpTo t (i + 1) ≡ 0
-  unfolding insideUpTo lowest
-  inside-more i e f = rw (add-one, e, f)
-
-  -- the one after those that are not inside
-  pub inside-found : (i n : ℕ) → insideUpTo t i ≡ 0 → isInside (modeOf t (suc i)) ≡ true → suc i ≤ n → insideUpTo t n ≡ suc i
-  unfolding insideUpTo lowest
-  inside-found i zero e f h = absurd (omega arith)
-  inside-found i (suc n) e f h =
-      by-bool (eqb i n)
-      (λ q. let w = eqb-true i n q in rw (← w) (rw (e, f)))
-      (λ q. let w = eqb-false i n q in rw (inside-found i n e f (omega arith), ne-eqb (suc i) 0 (λ z. omega arith)))
 
 -- no more pass than there are
 pub count-within : (p : ℕ → Bool) (n r : ℕ) → r ≡ count p n → r ≤ n

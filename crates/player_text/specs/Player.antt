@@ -13,11 +13,11 @@ use Rattle.model.specs.Setup.{sizeListed, setupCode, noRig}
 use Rattle.model.specs.Event.{Stored, Answer, event, blankMessage}
 use Rattle.model.specs.Run.{fresh}
 use Rattle.model.specs.Printed.{lineOf}
+use Rattle.setup.specs.Faults.{faultLine}
 use Rattle.player_grammar.specs.Grammar.{meaningOf}
 use Rattle.player_grammar.specs.declared.Line.{Line}
 use Rattle.player_grammar.specs.declared.Line.the-variants.{Sites, Set, Ask, Leave, Move, Malformed}
 use Rattle.player_printing.specs.Printing.{stepLine, stopLine}
-use Rattle.player_faults.specs.Faults.{faultLine}
 use Rattle.player_text.specs.declared.Stage.{Stage}
 use Rattle.player_text.specs.declared.Stage.the-variants.{Size, Sets, Events, Over}
 

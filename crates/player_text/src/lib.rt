@@ -1,9 +1,9 @@
 // The player's text up to its first event: the line `sites=` and the lines `set=`.
-use player_faults::fault_line;
 use player_grammar::Line;
 use player_printing::Page;
 use player_printing::stop_line;
 use rig::Rig;
+use setup::fault_line;
 use setup::resting;
 use setup::setup;
 ghost use mathlib.Core.Path.{_≡_};

@@ -6,10 +6,11 @@ use borrow.Author.Needs.{needs}
 use lib.ListN.{length, length-map}
 use Rattle.rig.specs.Limits.{siteLimit}
 use Rattle.basics.specs.Helpers.{lowest}
+use Rattle.basics.proofs.Basics.{lowest-more, lowest-found}
 use Rattle.model.specs.Tables.{at}
 use Rattle.model.specs.Printed.{insideUpTo}
 use Rattle.members.specs.Ties.{tablesOf}
-use Rattle.player_counts.proofs.Sites.{inside-more, inside-found, inside-stored}
+use Rattle.player_counts.proofs.Sites.{inside-stored}
 use Rattle.player_counts.proofs.inside.Statement.{statement}
 use Rattle.player_counts.proofs.inside.Tie as tie
 
@@ -39,11 +40,11 @@ add-result : tie.Need-add-result Inv-loop μ-loop
 add-result c = search needs
 
 returns : tie.Need-returns Inv-loop μ-loop
-unfolding at
+unfolding insideUpTo at
 returns c =
     let l = c .before .before .before .before .loop in
     let rig = c .before .before .before .before .before .before .args .t1 in
-    omega (arith, inside-found (tablesOf rig) (l .i) (rig .size) (l .inv .2) (sym (c .before .is-inside .ensures) ∙ c .if1 .taken) (omega arith))
+    omega (arith, lowest-found _ (l .i) (rig .size) (l .inv .2) (sym (c .before .is-inside .ensures) ∙ c .if1 .taken) (omega arith))
 
 add-i : tie.Need-add-i Inv-loop μ-loop
 add-i c = search needs
@@ -52,10 +53,10 @@ loop-less : tie.Need-loop-less Inv-loop μ-loop
 loop-less c = search needs
 
 loop-again : tie.Need-loop-again Inv-loop μ-loop
-unfolding at
+unfolding insideUpTo at
 loop-again c =
     let l = c .before .before .before .before .loop in
-    (omega arith, l .inv .1, inside-more _ (l .i) (l .inv .2) (sym (c .before .is-inside .ensures) ∙ c .if1 .left))
+    (omega arith, l .inv .1, lowest-more _ (l .i) (l .inv .2) (sym (c .before .is-inside .ensures) ∙ c .if1 .left))
 
 -- that a rig has 31 sites is what its type tells, `.good`
 returns-2 : tie.Need-returns-2 Inv-loop μ-loop

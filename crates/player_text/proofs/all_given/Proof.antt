@@ -10,9 +10,9 @@ use Rattle.player_text.proofs.Heads.{stops, starts}
 use borrow.Author.Needs.{needs}
 use Rattle.player_text.proofs.all_given.Statement.{statement}
 use Rattle.player_text.proofs.all_given.Tie as tie
-use Rattle.player_faults.proofs.fault_line.Reads as fault-line-reads
 use Rattle.player_text.proofs.one_more.Reads as one-more-reads
 use Rattle.player_text.proofs.stop.Reads as stop-reads
+use Rattle.setup.proofs.fault_line.Reads as fault-line-reads
 use Rattle.setup.proofs.setup.Reads as setup-reads
 
 slice-aggregate-setup : tie.Need-slice-aggregate-setup

@@ -2,9 +2,10 @@
 use mathlib.Core.Path.{sym, _∙_}
 use native.Mathlib.Omega.{arith}
 use borrow.Author.Needs.{needs}
-use borrow.Author.Tests.{eq-eqb, ne-eqb, not-true, not-false}
+use borrow.Author.Tests.{eq-eqb, ne-eqb}
 use Rattle.model.specs.Setup.{sizeListed, setupCode}
 use Rattle.model.proofs.Setup.{size-listed, size-too-large}
+use Rattle.setup.proofs.Rules.{all-name, all-meet}
 use Rattle.setup.proofs.judge.Statement.{statement}
 use Rattle.setup.proofs.judge.Tie as tie
 
@@ -23,27 +24,27 @@ unfolding setupCode
 returns-3 c =
     rw (eq-eqb _ _ (c .before .before .if1 .left), size-too-large _ (c .if3 .taken))
 
-all-name-requires : tie.Need-all-name-requires
-all-name-requires c κs = search needs
+first-breaking-requires : tie.Need-first-breaking-requires
+first-breaking-requires c κs = (omega arith, c .before .before .if1 .left, λ e. cc)
 
 returns-4 : tie.Need-returns-4
 unfolding setupCode
 returns-4 c =
-    rw (eq-eqb _ _ (c .before .before .before .before .if1 .left), size-listed (c .before .before .before .before .before .before .args .size) (omega arith) (omega arith), sym (c .before .all-name .ensures) ∙ not-true _ (c .if4 .taken))
+    rw (eq-eqb _ _ (c .before .before .before .before .if1 .left), size-listed (c .before .before .before .before .before .before .args .size) (omega arith) (omega arith), all-name _ _ ∙ ne-eqb _ 0 (rw (c .before .first-breaking .ensures) at (c .if4 .taken)))
 
-all-meet-requires : tie.Need-all-meet-requires
-all-meet-requires c κs =
-    (omega arith, c .before .before .before .before .if1 .left, sym (c .before .all-name .ensures) ∙ not-false _ (c .if4 .left))
+first-breaking-requires-2 : tie.Need-first-breaking-requires-2
+first-breaking-requires-2 c κs =
+    (omega arith, c .before .before .before .before .if1 .left, λ _. all-name _ _ ∙ eq-eqb _ 0 (sym (c .before .first-breaking .ensures) ∙ c .if4 .left))
 
 returns-5 : tie.Need-returns-5
 unfolding setupCode
 returns-5 c =
-    rw (eq-eqb _ _ (c .before .before .before .before .before .before .if1 .left), size-listed (c .before .before .before .before .before .before .before .before .args .size) (omega arith) (omega arith), sym (c .before .before .before .all-name .ensures) ∙ not-false _ (c .before .before .if4 .left), sym (c .before .all-meet .ensures) ∙ not-true _ (c .if5 .taken))
+    rw (eq-eqb _ _ (c .before .before .before .before .before .before .if1 .left), size-listed (c .before .before .before .before .before .before .before .before .args .size) (omega arith) (omega arith), all-name _ _ ∙ eq-eqb _ 0 (sym (c .before .before .before .first-breaking .ensures) ∙ c .before .before .if4 .left), all-meet _ _ ∙ ne-eqb _ 0 (rw (c .before .first-breaking2 .ensures) at (c .if5 .taken)))
 
 returns-6 : tie.Need-returns-6
 unfolding setupCode
 returns-6 c =
-    rw (eq-eqb _ _ (c .before .before .before .before .before .before .if1 .left), size-listed (c .before .before .before .before .before .before .before .before .args .size) (omega arith) (omega arith), sym (c .before .before .before .all-name .ensures) ∙ not-false _ (c .before .before .if4 .left), sym (c .before .all-meet .ensures) ∙ not-false _ (c .if5 .left))
+    rw (eq-eqb _ _ (c .before .before .before .before .before .before .if1 .left), size-listed (c .before .before .before .before .before .before .before .before .args .size) (omega arith) (omega arith), all-name _ _ ∙ eq-eqb _ 0 (sym (c .before .before .before .first-breaking .ensures) ∙ c .before .before .if4 .left), all-meet _ _ ∙ eq-eqb _ 0 (sym (c .before .first-breaking2 .ensures) ∙ c .if5 .left))
 
 pub judge-spec : {M : Type 1} → statement M
 judge-spec =
@@ -52,8 +53,8 @@ judge-spec =
     returns
     returns-2
     returns-3
-    all-name-requires
+    first-breaking-requires
     returns-4
-    all-meet-requires
+    first-breaking-requires-2
     returns-5
     returns-6)
