@@ -1,16 +1,16 @@
 // A site's part of its desk: what it says, and how it changes.
-use rig_reads::is_member;
 use rig::Desk;
 use rig::Mode;
 use rig::Rig;
 use rig::Site;
+use rig_reads::is_member;
 ghost use mathlib.Core.Path.{_≡_};
 ghost use mathlib.Core.Bool.{not, _||_, cond};
 ghost use Prim.Native.Nat.{_≤_};
 ghost use lib.Dec.{eqb};
 ghost use Rattle.rig.specs.Limits.{siteLimit, SiteNumber};
 ghost use Rattle.model.specs.Sets.{member};
-ghost use Rattle.model.specs.Site.{failedSet, allHeld, entered, taken, remembered, mustYield};
+ghost use Rattle.model.specs.Site.{failedSet, allHeld, entered, taken, remembered};
 
 // The failed mark is set.
 pub fn failed_set(d: Desk) -> Desk
@@ -94,21 +94,4 @@ pub fn remember(d: Desk, j: u64, n: u64) -> Desk
     let mut e = d;
     e.inquired[i] = n;
     e
-}
-
-// An inner call: member j is held, with a remembered inquire.
-pub fn must_yield(d: Desk, j: u64) -> bool
-    requires { ⌜ SiteNumber j ⌝ }
-    ensures { λ r. ⌜ r ≡ mustYield d j ⌝ }
-{
-    if !is_member(d.members, j) {
-        return false;
-    }
-    let i = (j - 1) as usize;
-    let g = d.held[i];
-    if g == 0 {
-        return false;
-    }
-    let q = d.inquired[i];
-    q != 0
 }

@@ -5,8 +5,8 @@ use borrow.Author.Needs.{needs}
 use Rattle.model.proofs.Tables.{at-read}
 use Rattle.model.specs.Site.{enteredOrYielded}
 use Rattle.site_yields.proofs.Does.{did-only}
-use Rattle.site_notices.proofs.enter_or_yield.Statement.{statement}
-use Rattle.site_notices.proofs.enter_or_yield.Tie as tie
+use Rattle.site_replies.proofs.enter_or_yield.Statement.{statement}
+use Rattle.site_replies.proofs.enter_or_yield.Tie as tie
 
 all-held-requires : tie.Need-all-held-requires
 all-held-requires c κs = search needs

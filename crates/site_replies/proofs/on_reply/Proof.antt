@@ -5,8 +5,8 @@ use borrow.Author.Needs.{needs}
 use Rattle.model.proofs.Tables.{at-read}
 use Rattle.model.specs.Site.{taken, takes, onReply}
 use Rattle.site_yields.proofs.Does.{did-only}
-use Rattle.site_notices.proofs.on_reply.Statement.{statement}
-use Rattle.site_notices.proofs.on_reply.Tie as tie
+use Rattle.site_replies.proofs.on_reply.Statement.{statement}
+use Rattle.site_replies.proofs.on_reply.Tie as tie
 
 is-waiting-requires : tie.Need-is-waiting-requires
 is-waiting-requires c κs = search needs
