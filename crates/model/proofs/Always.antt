@@ -32,7 +32,7 @@ use Rattle.model.specs.Setup.{setupCode, keptSets, restingSite, freeArbi
 use Rattle.model.specs.State.{Tables, Stored, underWay, seqIn, sizeOf, setsOf, inRange, hasMember, siteOf, modeOf, arbiterOf, heldOf, heirOf, inquiredOf, queuedOf, deskOf, withDesk}
 use Rattle.model.specs.Shape.{isNumber, isGiven, setShaped, modeShaped, siteBlank, siteShaped, holderShaped, arbiterShaped, placeShaped, rigShaped, entryShaped, ownShaped, heirShaped, queuedShaped, everywhere, numberShaped, plainShaped, releaseShaped, aboutShaped, messageShaped, messagesShaped, tablesShaped, wellShaped}
 use Rattle.model.specs.Desk.{Effect}
-use Rattle.model.specs.Event.{actor, sitesNamed, Attempt, refused, possible, numbersUpTo, numbersFit, limitCode, effectCode, judged, eventAt, settled, event}
+use Rattle.model.specs.Event.{actor, sitesNamed, Attempt, refused, possible, numbersUpTo, numbersFit, limitCode, effectCode, judged, eventAt, settled, played, tested, event}
 use Rattle.model.specs.Arbiter.{fromHolder, isEarly}
 use Rattle.model.specs.Site.{takes}
 use Rattle.model.specs.Run.{fresh, run, Always}
@@ -320,7 +320,7 @@ module _ (n : ℕ) (l : List ℕ) (a : Accepted n l) (past : (k : ℕ) → n < k
       (λ z. limit-nine k e rest v (rw z at h))
 
   pub nine-by-count : (e : Event) → event s e .code ≡ 9 → t .rig .accepted ≡ eventLimit
-  unfolding event eventAt settled deskOf
+  unfolding event tested played eventAt settled deskOf
   nine-by-count e h =
       by-bool (eqb (length (s .list)) messageLimit)
       (λ b. by-bool (sitesNamed (sizeOf t) e)

@@ -19,7 +19,7 @@ use Rattle.rig.specs.Limits.{messageLimit, eventLimit}
 use Rattle.model.specs.State.{Stored, underWay, isResting, isInside, deskOf}
 use Rattle.model.specs.Deliver.{between}
 use Rattle.model.specs.Shape.{wellShaped}
-use Rattle.model.specs.Event.{actor, sitesNamed, Attempt, refused, possible, takenOff, attempt, numbersFit, limitCode, effectCode, Outcome, padded, accepted, judged, eventAt, settled, event}
+use Rattle.model.specs.Event.{actor, sitesNamed, Attempt, refused, possible, takenOff, attempt, numbersFit, limitCode, effectCode, Outcome, padded, accepted, judged, eventAt, settled, played, tested, event}
 use Rattle.model.specs.Run.{run}
 use Rattle.model.proofs.Reached.{room}
 
@@ -97,7 +97,7 @@ module _ (s : Stored) where
   result-low e = at-low _ (deskOf (s .tables) (actor e)) (underWay s) e
 
   pub never-ten : wellShaped s ≡ true → (e : Event) → event s e .code ≢ 10
-  unfolding event settled
+  unfolding event tested played settled
   never-ten shaped e h =
       let l = result-low e in
       by-bool (eqb (length (s .list)) messageLimit)
@@ -105,7 +105,7 @@ module _ (s : Stored) where
       (λ b. let x : _≡_ {A = ℕ} 13 10 = rw b at h in absurd (omega arith))
 
   pub never-thirteen : length (s .list) ≡ messageLimit → (e : Event) → event s e .code ≢ 13
-  unfolding event settled
+  unfolding event tested played settled
   never-thirteen long e h =
       let l = result-low e in
       by-bool (wellShaped s)
@@ -115,7 +115,7 @@ module _ (s : Stored) where
   -- The list keeps its length.
 
   event-long : (e : Event) → length (s .list) ≡ messageLimit → length (event s e .next .list) ≡ messageLimit
-  unfolding event settled accepted
+  unfolding event tested played settled accepted
   event-long e long =
       let few : length (underWay s) ≤ messageLimit = rw (length-take (s .count) (s .list)) (omega arith) in
       by-bool (eqb (length (s .list)) messageLimit)

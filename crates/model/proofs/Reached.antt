@@ -28,7 +28,7 @@ use Rattle.model.specs.State.{Tables, Stored, underWay, sizeOf, setsOf, 
 use Rattle.model.specs.Desk.{Effect}
 use Rattle.model.specs.Deliver.{between, delivered}
 use Rattle.model.specs.Shape.{messageShaped, wellShaped}
-use Rattle.model.specs.Event.{actor, sitesNamed, Attempt, refused, possible, takenOff, attempt, numbersFit, limitCode, effectCode, blankMessage, padded, accepted, judged, eventAt, settled, event}
+use Rattle.model.specs.Event.{actor, sitesNamed, Attempt, refused, possible, takenOff, attempt, numbersFit, limitCode, effectCode, blankMessage, padded, accepted, judged, eventAt, settled, played, tested, event}
 use Rattle.model.specs.Run.{run}
 use Rattle.model.proofs.Machine.{systemOf, sentOf, rigOf, Sized, DeskSized, desk-sized, sized-desk, rests-same, inside-same}
 use Rattle.model.proofs.Lawful.{before, told, systemFrom}
@@ -213,7 +213,7 @@ module _ (n : ℕ) (l : List ℕ) where
       (λ h. rw (h, h) r)
 
   pub event-reached : (s : Stored) (e : Event) → Reached n l s → Reached n l (event s e .next)
-  unfolding event eventAt settled deskOf
+  unfolding event tested played eventAt settled deskOf
   event-reached s e r =
       by-bool (eqb (length (s .list)) messageLimit)
       (λ a. by-bool (wellShaped s)

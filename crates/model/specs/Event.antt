@@ -113,10 +113,14 @@ accepted t k d ms = record { tables = withAccepted (withDesk t k d) (t .rig .acc
 unfoldable pub settled : Stored → ℕ → Outcome → Answer
 settled s k o = answer (o .code) (cond (eqb (o .code) 0) (accepted (s .tables) k (o .desk) (o .messages)) s)
 
--- "An event. 13 first if a lent list of messages is not 1,024 entries long ... 10 if the state is misshapen ... 4 if a named site is
--- outside 1 to N. Then ..."
+-- an event on a state that has passed the tests of its list and its shape: at its site, and the state that is left
+unfoldable pub played : Stored → Event → Answer
+played s e = settled s (actor e) (eventAt (s .tables .rig .accepted) (deskOf (s .tables) (actor e)) (underWay s) e)
+
+-- "10 if the state is misshapen ... 4 if a named site is outside 1 to N. Then ..."
+unfoldable pub tested : Stored → Event → Answer
+tested s e = cond (not (wellShaped s)) (answer 10 s) (played s e)
+
+-- "An event. 13 first if a lent list of messages is not 1,024 entries long"
 unfoldable pub event : Stored → Event → Answer
-event s e =
-    cond (not (eqb (length (s .list)) messageLimit)) (answer 13 s)
-    (cond (not (wellShaped s)) (answer 10 s)
-    (settled s (actor e) (eventAt (s .tables .rig .accepted) (deskOf (s .tables) (actor e)) (underWay s) e)))
+event s e = cond (not (eqb (length (s .list)) messageLimit)) (answer 13 s) (tested s e)
