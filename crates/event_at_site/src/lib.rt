@@ -10,10 +10,13 @@ use rig::Site;
 use rig::Tables;
 use rig_reads::is_site;
 ghost use mathlib.Core.Path.{_≡_};
+ghost use Prim.Native.Nat.{_≤_, _<_};
+ghost use Rattle.rig.specs.Limits.{siteLimit, eventLimit};
 ghost use Rattle.model.specs.Event.{actor, sitesNamed, eventAt};
 ghost use Rattle.event_desks.specs.Parts.{deskAt};
 ghost use Rattle.event_storing.specs.Leaves.{Leaves, messagesIn};
 ghost use Rattle.event_storing.specs.Needs.{SiteReady};
+ghost use Rattle.event_at_site.specs.Places.{placeOf, countedOn};
 
 // The site at which an event happens: the asker, the leaver or the receiver.
 pub fn actor(e: Event) -> u64
@@ -24,6 +27,28 @@ pub fn actor(e: Event) -> u64
         Event::Leave(s) => s,
         Event::Deliver(_, b) => b,
     }
+}
+
+// An inner call: the index of a site in a rig's arrays, 0 for what is no site.
+pub fn place_of(size: u64, s: u64) -> usize
+    requires { ⌜ size ≤ siteLimit ⌝ }
+    ensures { λ r. ⌜ (r ≡ placeOf size s) × (r < siteLimit) ⌝ }
+{
+    if is_site(size, s) {
+        return (s - 1) as usize;
+    }
+    0
+}
+
+// An inner call: the accepted events, once one more is answered with that code.
+pub fn counted_on(accepted: u64, code: u64) -> u64
+    requires { ⌜ accepted ≤ eventLimit ⌝ }
+    ensures { λ r. ⌜ r ≡ countedOn accepted code ⌝ }
+{
+    if code == 0 {
+        return accepted + 1;
+    }
+    accepted
 }
 
 // Whether each site that an event names is one of 1 to `size`.

@@ -1,97 +1,58 @@
-// One event on a rig: the state and the event go in, the code and the next state come out.
-use event_storing::Answer;
-use event_attempt_delivery::deliver;
-use event_attempts::ask;
-use event_attempts::leave;
-use list_rows::Row;
-use list_rows::clear_from;
+// One event on a rig, with its list in rows: the parts of the event's site are taken out of the rig, and stored.
+use event_at_site::actor;
+use event_at_site::counted_on;
+use event_at_site::place_of;
+use event_at_site::step_at;
+use list_rows::Outbox;
+use list_rows::Rows;
+use rig::Answer;
 use rig::Event;
 use rig::Rig;
-use rig::Table;
-use shape_state::well_shaped;
+use rig::Tables;
 ghost use mathlib.Core.Path.{_≡_};
-ghost use Rattle.model.specs.Event.{event};
-ghost use Rattle.list_rows.specs.Places.{cleared};
-ghost use Rattle.event_storing.specs.Whole.{stored, answered};
-ghost use Rattle.event_attempts.specs.Needs.{Ready, Played};
-ghost use Rattle.event_rows.specs.Stepped.{Stepped};
-
-// An inner call: an event on a well-shaped state.
-fn play(
-    rig: Rig,
-    held: &mut Table,
-    heir: &mut Table,
-    inquired: &mut Table,
-    queued: &mut Table,
-    list: &mut [Row],
-    count: usize,
-    e: Event,
-) -> Answer
-    requires { ⌜ Ready (stored rig (now held) (now heir) (now inquired) (now queued) (now list) count) ⌝ }
-    ensures { λ r. ⌜ Played (stored rig (now (held .entry)) (now (heir .entry)) (now (inquired .entry)) (now (queued .entry)) (now (list .entry)) count) e (now (list .entry)) r (now (held .exit)) (now (heir .exit)) (now (inquired .exit)) (now (queued .exit)) (now (list .exit)) ⌝ }
-{
-    match e {
-        Event::Ask(s) => ask(rig, held, heir, inquired, queued, list, count, s),
-        Event::Leave(s) => leave(rig, held, heir, inquired, queued, list, count, s),
-        Event::Deliver(a, b) => deliver(rig, held, heir, inquired, queued, list, count, a, b),
-    }
-}
+ghost use mathlib.Core.Bool.{true};
+ghost use Rattle.model.specs.Shape.{wellShaped};
+ghost use Rattle.list_rows.specs.Rows.{ZeroPast};
+ghost use Rattle.list_rows.specs.State.{stored, before, after};
+ghost use Rattle.event_rows.specs.Steps.{Steps};
 
 // An inner call: an event on a well-shaped state whose rows past the count are zeros, without a test of either. Both hold of the next
-// state of a run, so that a caller who alone has the state needs no tests.
+// state of a run, so that a caller who alone has the state needs no tests. `out` is room for what is sent.
 pub fn step(
     rig: Rig,
-    held: &mut Table,
-    heir: &mut Table,
-    inquired: &mut Table,
-    queued: &mut Table,
-    list: &mut [Row],
+    tables: &mut Tables,
+    list: &mut Rows,
+    out: &mut Outbox,
     count: usize,
     e: Event,
 ) -> Answer
-    requires { ⌜ Ready (stored rig (now held) (now heir) (now inquired) (now queued) (now list) count) × (cleared count (now list) ≡ now list) ⌝ }
-    ensures { λ r. ⌜ Stepped (stored rig (now (held .entry)) (now (heir .entry)) (now (inquired .entry)) (now (queued .entry)) (now (list .entry)) count) e (answered r (now (held .exit)) (now (heir .exit)) (now (inquired .exit)) (now (queued .exit)) (now (list .exit))) × (cleared (r .count) (now (list .exit)) ≡ now (list .exit)) ⌝ }
+    requires { ⌜ (wellShaped (stored rig (now tables) (now list) count) ≡ true) × ZeroPast count (now list) ⌝ }
+    ensures { λ r. ⌜ Steps (before rig tables list count) e (after r tables list) × ZeroPast (r .count) (now (list .exit)) ⌝ }
 {
-    play(rig, held, heir, inquired, queued, list, count, e)
-}
-
-// One event, on any state at all: the code of document 01, and the next state.
-pub fn event(
-    rig: Rig,
-    held: &mut Table,
-    heir: &mut Table,
-    inquired: &mut Table,
-    queued: &mut Table,
-    list: &mut [Row],
-    count: usize,
-    e: Event,
-) -> Answer
-    ensures { λ r. ⌜ answered r (now (held .exit)) (now (heir .exit)) (now (inquired .exit)) (now (queued .exit)) (now (list .exit)) ≡ event (stored rig (now (held .entry)) (now (heir .entry)) (now (inquired .entry)) (now (queued .entry)) (now (list .entry)) count) e ⌝ }
-{
-    if list.len() != Rig::MESSAGES {
-        return Answer {
-            code: 13,
-            rig: rig,
-            count: count,
-        };
+    let i = place_of(rig.size, actor(e));
+    let site = rig.sites[i];
+    let arbiter = rig.arbiters[i];
+    let done = step_at(
+        rig.size,
+        rig.accepted,
+        rig.sets[i],
+        site,
+        arbiter,
+        tables,
+        list,
+        count,
+        out,
+        e,
+    );
+    let mut next = rig;
+    let site_after = done.site;
+    next.sites[i] = site_after;
+    let arbiter_after = done.arbiter;
+    next.arbiters[i] = arbiter_after;
+    next.accepted = counted_on(rig.accepted, done.code);
+    Answer {
+        code: done.code,
+        rig: next,
+        count: done.count,
     }
-    if count > Rig::MESSAGES {
-        return Answer {
-            code: 10,
-            rig: rig,
-            count: count,
-        };
-    }
-    if !well_shaped(rig, held, heir, inquired, queued, list, count) {
-        return Answer {
-            code: 10,
-            rig: rig,
-            count: count,
-        };
-    }
-    let r = play(rig, held, heir, inquired, queued, list, count, e);
-    if r.code == 0 {
-        clear_from(list, r.count);
-    }
-    r
 }

@@ -114,7 +114,7 @@ module _ (s : Stored) where
 
   -- The list keeps its length.
 
-  event-long : (e : Event) → length (s .list) ≡ messageLimit → length (event s e .next .list) ≡ messageLimit
+  pub event-long : (e : Event) → length (s .list) ≡ messageLimit → length (event s e .next .list) ≡ messageLimit
   unfolding event tested played settled accepted
   event-long e long =
       let few : length (underWay s) ≤ messageLimit = rw (length-take (s .count) (s .list)) (omega arith) in

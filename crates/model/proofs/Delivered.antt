@@ -12,31 +12,17 @@ use borrow.Author.Tests.{eqb-true, eqb-false, ne-eqb}
 use Rattle.basics.specs.Helpers.{first, withoutFirst}
 use Rattle.basics.proofs.Basics.{by-bool, clash, and-split}
 use Rattle.rig.specs.declared.Message.{Message}
-use Rattle.rig.specs.Limits.{siteLimit, SiteNumber}
 use Rattle.rig.specs.Messages.{REQUEST, REPLY, RELEASE, INQUIRE, FAIL, YIELD, TRANSFER}
 use Rattle.protocol.specs.Rig as R
-use Rattle.model.specs.State.{Tables, Stored, sizeOf, setsOf, inRange, hasMember, deskOf, withDesk}
+use Rattle.model.specs.State.{Tables, Stored, sizeOf, setsOf, hasMember, deskOf, withDesk}
 use Rattle.model.specs.Deliver.{between, delivered}
-use Rattle.model.specs.Shape.{numberShaped, releaseShaped, aboutShaped, messageShaped, messagesShaped}
+use Rattle.model.specs.Shape.{releaseShaped, aboutShaped, messageShaped, messagesShaped}
 use Rattle.model.proofs.Machine.{systemOf, sentOf, rigOf, Sized}
-use Rattle.model.proofs.Shaped.{Shaped, ties, listed, tied-listed}
+use Rattle.model.proofs.Shaped.{by-kind, Shaped, ties, tied-listed, ends}
 use Rattle.model.proofs.ArbiterDelivered.{request-delivered, release-delivered, handOver-delivered, yield-delivered}
 use Rattle.model.proofs.SiteDelivered.{transfer-delivered, inquire-delivered}
 use Rattle.model.proofs.ReplyDelivered.{reply-delivered}
 use Rattle.model.proofs.FailDelivered.{fail-delivered}
-
--- by a message's kind
-pub by-kind {ℓ} : {C : Type ℓ} (k : ℕ) → (k ≡ REQUEST → C) → (k ≡ REPLY → C) → (k ≡ RELEASE → C) → (k ≡ INQUIRE → C) → (k ≡ FAIL → C) → (k ≡ YIELD → C) → (k ≡ TRANSFER → C)
-    → (k ≢ REQUEST → k ≢ REPLY → k ≢ RELEASE → k ≢ INQUIRE → k ≢ FAIL → k ≢ YIELD → k ≢ TRANSFER → C) → C
-by-kind k c1 c2 c3 c4 c5 c6 c7 c0 =
-    by-bool (eqb k REQUEST) (λ e. c1 (eqb-true k _ e))
-    (λ n1. by-bool (eqb k REPLY) (λ e. c2 (eqb-true k _ e))
-    (λ n2. by-bool (eqb k RELEASE) (λ e. c3 (eqb-true k _ e))
-    (λ n3. by-bool (eqb k INQUIRE) (λ e. c4 (eqb-true k _ e))
-    (λ n4. by-bool (eqb k FAIL) (λ e. c5 (eqb-true k _ e))
-    (λ n5. by-bool (eqb k YIELD) (λ e. c6 (eqb-true k _ e))
-    (λ n6. by-bool (eqb k TRANSFER) (λ e. c7 (eqb-true k _ e))
-    (λ n7. c0 (eqb-false k _ n1) (eqb-false k _ n2) (eqb-false k _ n3) (eqb-false k _ n4) (eqb-false k _ n5) (eqb-false k _ n6) (eqb-false k _ n7))))))))
 
 -- a message goes the same way in both
 way-same : (a b : ℕ) (m : Message) → R.channel a b (sentOf m) ≡ between a b m
@@ -86,21 +72,14 @@ module _ (s : Stored) (z : Sized (s .tables)) (sh : Shaped s) (m : Message) (e :
   abbrev t : Tables
   t = s .tables
 
-  pub ends : SiteNumber (m .from) × SiteNumber (m .to) × (aboutShaped (setsOf t) m ≡ true)
-  unfolding messageShaped
-  ends =
-      let a = and-split (inRange (sizeOf t) (m .from)) _ e in
-      let b = and-split (inRange (sizeOf t) (m .to)) _ (a .1) in
-      let c = and-split (numberShaped m) (aboutShaped (setsOf t) m) (b .1) in
-      (listed s sh (m .from) (a .0), listed s sh (m .to) (b .0), c .1)
-
   pub delivered-same : (rest ms : List Message)
       → rigOf (withDesk t (m .to) (delivered (deskOf t (m .to)) m .desk)) (rest ++ delivered (deskOf t (m .to)) m .sent) ≡ R.delivered (systemOf t) (rigOf t ms) (map sentOf rest) ((sentOf m) .arbiter) ((sentOf m) .message)
   unfolding delivered aboutShaped releaseShaped
   delivered-same rest ms =
-      let fr = ends .0 in
-      let to = ends .1 in
-      let ab = ends .2 in
+      let x = ends s sh m e in
+      let fr = x .0 in
+      let to = x .1 in
+      let ab = x .2 in
       by-kind (m .kind)
       (λ k. rw k (request-delivered t z (m .to) (to .low) (to .high) rest ms (m .from) (m .number) (fr .low) (fr .high)))
       (λ k. let a = tied-listed s sh (m .to) (m .about) (rw k at ab) .1 in

@@ -32,9 +32,9 @@ use Rattle.model.specs.Event.{actor, sitesNamed, Attempt, refused, possi
 use Rattle.model.specs.Run.{run}
 use Rattle.model.proofs.Machine.{systemOf, sentOf, rigOf, Sized, DeskSized, desk-sized, sized-desk, rests-same, inside-same}
 use Rattle.model.proofs.Lawful.{before, told, systemFrom}
-use Rattle.model.proofs.Shaped.{Shaped, shaped, within}
+use Rattle.model.proofs.Shaped.{Shaped, shaped, within, ends}
 use Rattle.model.proofs.AskLeave.{ask-same, leave-same}
-use Rattle.model.proofs.Delivered.{step-delivers, first-shaped, ends, delivered-same}
+use Rattle.model.proofs.Delivered.{step-delivers, first-shaped, delivered-same}
 use Rattle.model.proofs.Plain.{AllPlain, both, asked-plain, left-plain, delivered-plain}
 use Rattle.model.proofs.DeskSizes.{asked-sized, left-sized, delivered-sized}
 
@@ -152,7 +152,7 @@ module _ (n : ℕ) (l : List ℕ) (s : Stored) (r : Reached n l s) (w : wellShap
       let rest = withoutFirst (between a b) ms in
       let sh = shaped s w in
       let mp = first-shaped (sizeOf t) (setsOf t) a b ms m (sh .messages) e in
-      let to = ends s (r .sized) sh m (mp .0) .1 in
+      let to = ends s sh m (mp .0) .1 in
       let q = mp .1 in
       let lo : 1 ≤ b = omega (arith, q, to .low) in
       let hi : b ≤ siteLimit = omega (arith, q, to .high) in

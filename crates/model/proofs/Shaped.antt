@@ -1,26 +1,42 @@
 -- What the test of a state's shape says of it.
 use Prim.Native.Nat.{ℕ, _≤_, _<_}
 use mathlib.Core.Path.{_≡_, refl}
-use mathlib.Core.Logic.{⊎-elim}
+use mathlib.Core.Logic.{_≢_, ⊎-elim}
 use mathlib.Core.Bool.{true, false}
 use native.Mathlib.Omega.{arith}
 use lib.Dec.{eqb, leb}
-use borrow.Author.Tests.{eqb-true, leb-true, leb-false}
+use borrow.Author.Tests.{eqb-true, eqb-false, ne-eqb, leb-true, leb-false}
 use Rattle.basics.specs.Helpers.{all}
 use Rattle.basics.proofs.Basics.{by-bool, clash, and-split, or-either, all-at}
+use Rattle.rig.specs.declared.Message.{Message}
+use Rattle.rig.specs.Messages.{REQUEST, REPLY, RELEASE, INQUIRE, FAIL, YIELD, TRANSFER}
 use Rattle.rig.specs.Limits.{siteLimit, messageLimit, eventLimit, numberLimit, SiteNumber}
 use Rattle.model.specs.Tables.{at, cell}
 use Rattle.model.specs.Setup.{setupCode}
 use Rattle.model.specs.State.{Tables, Stored, underWay, sizeOf, setsOf, inRange, hasMember, siteOf, arbiterOf, heldOf}
-use Rattle.model.specs.Shape.{isNumber, setShaped, modeShaped, siteShaped, arbiterShaped, placeShaped, rigShaped, entryShaped, ownShaped, everywhere, messagesShaped, tablesShaped, wellShaped}
+use Rattle.model.specs.Shape.{isNumber, setShaped, modeShaped, siteShaped, arbiterShaped, placeShaped, rigShaped, entryShaped, ownShaped, everywhere, numberShaped, plainShaped, releaseShaped, aboutShaped, messageShaped, messagesShaped, tablesShaped, wellShaped}
 use Rattle.model.proofs.Tables.{at-past}
 use Rattle.model.proofs.Setup.{Accepted, accepts}
 use Rattle.model.proofs.Lawful.{site-within, tie-within}
+
+-- by a message's kind
+pub by-kind {ℓ} : {C : Type ℓ} (k : ℕ) → (k ≡ REQUEST → C) → (k ≡ REPLY → C) → (k ≡ RELEASE → C) → (k ≡ INQUIRE → C) → (k ≡ FAIL → C) → (k ≡ YIELD → C) → (k ≡ TRANSFER → C)
+    → (k ≢ REQUEST → k ≢ REPLY → k ≢ RELEASE → k ≢ INQUIRE → k ≢ FAIL → k ≢ YIELD → k ≢ TRANSFER → C) → C
+by-kind k c1 c2 c3 c4 c5 c6 c7 c0 =
+    by-bool (eqb k REQUEST) (λ e. c1 (eqb-true k _ e))
+    (λ n1. by-bool (eqb k REPLY) (λ e. c2 (eqb-true k _ e))
+    (λ n2. by-bool (eqb k RELEASE) (λ e. c3 (eqb-true k _ e))
+    (λ n3. by-bool (eqb k INQUIRE) (λ e. c4 (eqb-true k _ e))
+    (λ n4. by-bool (eqb k FAIL) (λ e. c5 (eqb-true k _ e))
+    (λ n5. by-bool (eqb k YIELD) (λ e. c6 (eqb-true k _ e))
+    (λ n6. by-bool (eqb k TRANSFER) (λ e. c7 (eqb-true k _ e))
+    (λ n7. c0 (eqb-false k _ n1) (eqb-false k _ n2) (eqb-false k _ n3) (eqb-false k _ n4) (eqb-false k _ n5) (eqb-false k _ n6) (eqb-false k _ n7))))))))
 
 pub record Shaped (s : Stored) : Type 0 where
   pub few : s .count ≤ messageLimit
   pub sets : Accepted (sizeOf (s .tables)) (setsOf (s .tables))
   pub past : (k : ℕ) → sizeOf (s .tables) < k → at 0 (setsOf (s .tables)) k ≡ 0
+  pub accepted : s .tables .rig .accepted ≤ eventLimit
   pub places : (k : ℕ) → SiteNumber k → placeShaped (s .tables .rig) k ≡ true
   pub held : everywhere (ownShaped (setsOf (s .tables))) (s .tables .held) ≡ true
   pub messages : messagesShaped (sizeOf (s .tables)) (setsOf (s .tables)) (underWay s) ≡ true
@@ -50,6 +66,7 @@ shaped s e =
       few = leb-true (s .count) messageLimit (a .0);
       sets = acc;
       past = none-past t acc places;
+      accepted = leb-true (t .rig .accepted) eventLimit (f .0);
       places = places;
       held = and-split (everywhere (ownShaped (setsOf t)) (t .held)) _ (c .1) .0;
       messages = b .1;
@@ -106,3 +123,39 @@ module _ (s : Stored) (h : Shaped s) where
       by-bool (hasMember (setsOf t) k j)
       (λ c. number _ (rw c at b))
       (λ c. let z = eqb-true (heldOf t k j) 0 (rw c at b) in omega arith)
+
+  -- A message under way.
+  module _ (m : Message) (e : messageShaped (sizeOf t) (setsOf t) m ≡ true) where
+    pub ends : SiteNumber (m .from) × SiteNumber (m .to) × (aboutShaped (setsOf t) m ≡ true)
+    unfolding messageShaped
+    ends =
+        let a = and-split (inRange (sizeOf t) (m .from)) _ e in
+        let b = and-split (inRange (sizeOf t) (m .to)) _ (a .1) in
+        let c = and-split (numberShaped m) (aboutShaped (setsOf t) m) (b .1) in
+        (listed (m .from) (a .0), listed (m .to) (b .0), c .1)
+
+    pub about-arbiter : m .kind ≡ REPLY → SiteNumber (m .about)
+    unfolding aboutShaped
+    about-arbiter k = tied-listed (m .to) (m .about) (rw k at (ends .2)) .1
+
+    -- one that is about no site
+    plain-about : (k j : ℕ) → plainShaped (setsOf t) (m .about) k j ≡ true → m .about ≤ siteLimit
+    unfolding plainShaped
+    plain-about k j a = let z = eqb-true (m .about) 0 (and-split (eqb (m .about) 0) _ a .0) in omega arith
+
+    pub about-high : m .about ≤ siteLimit
+    unfolding aboutShaped releaseShaped
+    about-high =
+        let a = ends .2 in
+        by-kind (m .kind)
+        (λ k. plain-about (m .from) (m .to) (rw k at a))
+        (λ k. tied-listed (m .to) (m .about) (rw k at a) .1 .high)
+        (λ k. ⊎-elim
+        (λ z. let y = eqb-true (m .about) 0 z in omega arith)
+        (λ z. tied-listed (m .about) (m .to) z .0 .high)
+        (or-either (eqb (m .about) 0) (hasMember (setsOf t) (m .about) (m .to)) (and-split (hasMember (setsOf t) (m .from) (m .to)) _ (rw k at a) .1)))
+        (λ k. plain-about (m .to) (m .from) (rw k at a))
+        (λ k. plain-about (m .to) (m .from) (rw k at a))
+        (λ k. plain-about (m .from) (m .to) (rw k at a))
+        (λ k. tied-listed (m .about) (m .from) (and-split (hasMember (setsOf t) (m .to) (m .from)) _ (rw k at a) .1) .0 .high)
+        (λ n1 n2 n3 n4 n5 n6 n7. clash false (rw (ne-eqb _ _ n1, ne-eqb _ _ n2, ne-eqb _ _ n3, ne-eqb _ _ n4, ne-eqb _ _ n5, ne-eqb _ _ n6, ne-eqb _ _ n7) at a) refl)

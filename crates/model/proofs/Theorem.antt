@@ -31,7 +31,7 @@ use Rattle.model.proofs.Tables.{at-same, Square}
 use Rattle.model.proofs.Setup.{Accepted, accepts}
 use Rattle.model.proofs.Machine.{modeNumber, askIn, sentOf, rigOf, waits-same, inside-same, rig-path, sites-path, row-path}
 use Rattle.model.proofs.Lawful.{systemFrom, lawful, kept-past, kept-accepted}
-use Rattle.model.proofs.Delivered.{by-kind}
+use Rattle.model.proofs.Shaped.{by-kind}
 use Rattle.model.proofs.Reached.{Reached, run-reached}
 
 -- The fresh state is the machine's

@@ -1,27 +1,93 @@
--- `step`: the event, with nothing left to clear.
-use mathlib.Core.Path.{sym, _∙_}
+-- `step`: the parts of one site, and where they are stored.
+use mathlib.Core.Path.{_≡_}
 use denote.Ref.{now}
-use lib.ListN.{length-map}
 use borrow.Author.Needs.{needs}
-use Rattle.list_rows.specs.Rows.{messageOf}
-use Rattle.event_storing.specs.Whole.{stored}
-use Rattle.event_rows.proofs.Again.{stepped}
+use Rattle.model.specs.Event.{actor}
+use Rattle.list_rows.specs.State.{stored}
+use Rattle.event_at_site.specs.Places.{placeOf}
+use Rattle.event_rows.proofs.Ready.{ready, size-high, accepted-high}
+use Rattle.event_rows.proofs.Stepping.{stepped, again}
 use Rattle.event_rows.proofs.step.Statement.{statement}
 use Rattle.event_rows.proofs.step.Tie as tie
-use Rattle.event_rows.proofs.play.Reads as play-reads
+use Rattle.event_at_site.proofs.actor.Reads as actor-reads
+use Rattle.event_at_site.proofs.counted_on.Reads as counted-on-reads
+use Rattle.event_at_site.proofs.place_of.Reads as place-of-reads
+use Rattle.event_at_site.proofs.step_at.Reads as step-at-reads
 
-play-requires : tie.Need-play-requires
-play-requires c κs = search needs
+actor-requires : tie.Need-actor-requires
+actor-requires c κs = search needs
 
-same-length : tie.Need-same-length
-same-length c = search needs
+place-of-requires : tie.Need-place-of-requires
+place-of-requires c κs =
+    let a = c .before .args in
+    size-high (a .rig) (now (a .tables)) 0 (now (a .list)) (a .count) (c .before .pre .0)
+
+mul-site : tie.Need-mul-site
+mul-site c = search needs
+
+element-copy-out-site : tie.Need-element-copy-out-site
+element-copy-out-site c = search needs
+
+mul-arbiter : tie.Need-mul-arbiter
+mul-arbiter c = search needs
+
+element-copy-out-arbiter : tie.Need-element-copy-out-arbiter
+element-copy-out-arbiter c = search needs
+
+mul-step-at : tie.Need-mul-step-at
+mul-step-at c = search needs
+
+element-copy-out-step-at : tie.Need-element-copy-out-step-at
+element-copy-out-step-at c = search needs
+
+step-at-requires : tie.Need-step-at-requires
+step-at-requires c κs =
+    let a = c .before .before .before .before .before .before .before .before .args in
+    let p = c .before .before .before .before .before .before .before .before .pre in
+    rw (c .before .before .before .before .before .before .place-of .ensures .0, c .before .before .before .before .before .before .before .actor .ensures) (ready (a .rig) (now (a .tables)) (actor (a .e)) (now (a .list)) (a .count) (p .0) (p .1))
+
+mul-site-after : tie.Need-mul-site-after
+mul-site-after c = search needs
+
+element-set-from-site-after : tie.Need-element-set-from-site-after
+element-set-from-site-after c = search needs
+
+mul-arbiter-after : tie.Need-mul-arbiter-after
+mul-arbiter-after c = search needs
+
+element-set-from-arbiter-after : tie.Need-element-set-from-arbiter-after
+element-set-from-arbiter-after c = search needs
+
+counted-on-requires : tie.Need-counted-on-requires
+counted-on-requires c κs =
+    let a = c .before .before .before .before .before .before .before .before .before .before .before .args in
+    accepted-high (a .rig) (now (a .tables)) 0 (now (a .list)) (a .count) (c .before .before .before .before .before .before .before .before .before .before .before .pre .0)
 
 returns : tie.Need-returns
 returns c =
-    let a = c .before .before .before .before .before .before .before .args in
-    let p = c .before .before .before .before .before .before .before .pre in
-    let entry = stored (a .rig) (now (a .held)) (now (a .heir)) (now (a .inquired)) (now (a .queued)) (now (a .list)) (a .count) in
-    stepped entry (a .e) (now (a .list)) (c .before .play .result) _ _ _ _ _ (c .before .play .ensures) (p .1) (same-length c ∙ sym (length-map (now (a .list)) messageOf) ∙ p .0 .long)
+    let a = c .before .before .before .before .before .before .before .before .before .before .before .before .args in
+    let s = stored (a .rig) (now (a .tables)) (now (a .list)) (a .count) in
+    let i : c .before .before .before .before .before .before .before .before .before .before .place-of .result ≡ placeOf (a .rig .size) (actor (a .e)) = rw (c .before .before .before .before .before .before .before .before .before .before .before .actor .ensures) at (c .before .before .before .before .before .before .before .before .before .before .place-of .ensures .0) in
+    let l = rw i at (c .before .before .before .step-at .ensures) in
+    let q = rw (i, c .counted-on .ensures) (stepped (a .rig) (now (a .tables)) _ (now (a .list)) _ (a .count) (a .e) (c .before .before .before .step-at .result) l) in
+    (record { answer = q; again = again s (a .e) _ q }, l .zeros)
 
 pub step-spec : {M : Type 1} → statement M
-step-spec = tie.close (tie.spec play-requires same-length returns)
+step-spec =
+    tie.close
+    (tie.spec
+    actor-requires
+    place-of-requires
+    mul-site
+    element-copy-out-site
+    mul-arbiter
+    element-copy-out-arbiter
+    mul-step-at
+    element-copy-out-step-at
+    step-at-requires
+    mul-site-after
+    element-set-from-site-after
+    mul-arbiter-after
+    element-set-from-arbiter-after
+    counted-on-requires
+    returns)
