@@ -2,3 +2,4 @@
 pub mod Basics
 pub mod Lists
 pub mod Numbers
+pub mod Tests

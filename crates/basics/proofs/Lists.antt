@@ -1,11 +1,12 @@
 -- Laws of the list under way: how many of its messages pass a test, what all of them satisfy, and what both become when one is taken
 -- off or appended. An event removes one message and appends at the end; nothing else ever changes the list.
-use Prim.Native.Nat.{ℕ, suc, _+_, _≤_, _<_}
-use mathlib.Core.Path.{_≡_, refl}
+use Prim.Native.Nat.{ℕ, zero, suc, _+_, _≤_, _<_}
+use mathlib.Core.Path.{_≡_, refl, ap}
 use mathlib.Core.Bool.{Bool, true, false}
-use mathlib.Core.List.{List, [], _∷_, _++_}
+use mathlib.Core.List.{List, [], _∷_, _++_, map}
 use mathlib.Core.Option.{some}
 use native.Mathlib.Omega.{arith}
+use lib.ListN.{take}
 use Rattle.basics.specs.Helpers.{tally, first, withoutFirst}
 use Rattle.basics.proofs.Basics.{by-bool}
 
@@ -124,3 +125,9 @@ module _ {A : Type 0} where
       by-bool (a x)
       (λ e. rw (e, f x (h .0) e) (omega arith))
       (λ e. by-bool (b x) (λ g. rw (e, g) (omega arith)) (λ g. rw (e, g) ih))
+
+-- the first entries of a list that was made of another
+pub take-map : {A B : Type 0} (f : A → B) (n : ℕ) (xs : List A) → take n (map f xs) ≡ map f (take n xs)
+take-map f zero xs = refl
+take-map f (suc n) [] = refl
+take-map f (suc n) (x ∷ xs) = ap (λ ys. f x ∷ ys) (take-map f n xs)

@@ -1,2 +1,1 @@
--- The tests of model/specs/Shape on one entry or row of a table of numbers.
-pub mod Rows
+pub mod Cells

@@ -1,104 +1,92 @@
-// Whether the four tables of numbers are well shaped: `held`, `heir`, `inquired` and `queued`, as model/specs/Shape defines it.
-use rig_reads::both_tied;
-use rig_reads::tied;
-use rig_reads::is_number;
+// Whether the tables of numbers are well shaped, as model/specs/Shape defines it. `which` is the index of a table: it says how an entry
+// is tested.
 use rig::Rig;
 use rig::Table;
+use rig::Tables;
+use rig_reads::both_tied;
+use rig_reads::is_number;
+use rig_reads::tied;
 ghost use mathlib.Core.Path.{_≡_};
-ghost use Rattle.model.specs.Shape.{entryShaped};
-ghost use Rattle.shape_tables.specs.Rows.{rowFits, heirFits, heirsFit, queueFits, eachRow};
+ghost use mathlib.Core.Bool.{_&&_};
+ghost use mathlib.Core.List.{[]};
+ghost use lib.Dec.{eqb};
+ghost use lib.ListN.{getD};
+ghost use Rattle.rig.specs.Limits.{siteLimit, HELD, HEIR, INQUIRED, QUEUED};
+ghost use Rattle.basics.specs.Helpers.{all};
+ghost use Rattle.model.specs.Tables.{at};
+ghost use Rattle.model.specs.Shape.{ownShaped, heirShaped, queuedShaped, everywhere};
+ghost use Rattle.shape_tables.specs.Cells.{cellShaped};
 
-// The entry of a table of numbers is in range, and 0 for a non-member.
-fn entry_shaped(tie: bool, n: u64) -> bool
-    ensures { λ r. ⌜ r ≡ entryShaped tie n ⌝ }
+// Whether all entries of a row are 0.
+fn is_blank(row: &[u64; Rig::SITES]) -> bool
+    ensures { λ r. ⌜ r ≡ all (λ b. eqb (at 0 (now (row .entry)) b) 0) siteLimit ⌝ }
 {
-    if tie {
-        return is_number(n);
+    let mut any = 0;
+    for b in 0..Rig::SITES {
+        any = any | row[b];
     }
-    n == 0
+    any == 0
 }
 
-// What site k has for each arbiter.
-fn row_shaped(sets: &[u64; Rig::SITES], k: u64, row: &[u64; Rig::SITES]) -> bool
-    ensures { λ r. ⌜ r ≡ rowFits (now (sets .entry)) k (now (row .entry)) ⌝ }
+// The entry n in row a and column b: 0, an heir, or a number, of a site and an arbiter in its set.
+fn cell_shaped(which: usize, sets: &[u64; Rig::SITES], a: u64, b: u64, n: u64) -> bool
+    ensures { λ r. ⌜ r ≡ cellShaped which (now (sets .entry)) a b n ⌝ }
 {
-    for i in 0..Rig::SITES {
-        if !entry_shaped(tied(sets, k, i as u64 + 1), row[i]) {
-            return false;
-        }
-    }
-    true
-}
-
-// What each site has for each arbiter: `held`, and so `inquired`.
-pub fn entries_shaped(sets: &[u64; Rig::SITES], table: &Table) -> bool
-    ensures { λ r. ⌜ r ≡ eachRow (rowFits (now (sets .entry))) (now (table .entry)) ⌝ }
-{
-    for i in 0..Rig::SITES {
-        let row = table[i];
-        if !row_shaped(sets, i as u64 + 1, &row) {
-            return false;
-        }
-    }
-    true
-}
-
-// An heir is a site that has the arbiter in its set; only a member has one.
-fn heir_shaped(sets: &[u64; Rig::SITES], k: u64, j: u64, heir: u64) -> bool
-    ensures { λ r. ⌜ r ≡ heirFits (now (sets .entry)) k j heir ⌝ }
-{
-    if heir == 0 {
+    if n == 0 {
         return true;
     }
-    both_tied(sets, k, heir, j)
+    if which == Rig::HEIR {
+        return both_tied(sets, a, n, b);
+    }
+    if !is_number(n) {
+        return false;
+    }
+    if which == Rig::QUEUED {
+        return tied(sets, b, a);
+    }
+    tied(sets, a, b)
 }
 
-// Site k's heirs, one for each arbiter.
-fn heir_row_shaped(sets: &[u64; Rig::SITES], k: u64, row: &[u64; Rig::SITES]) -> bool
-    ensures { λ r. ⌜ r ≡ heirsFit (now (sets .entry)) k (now (row .entry)) ⌝ }
+// Row a. Most rows are blank, and every test passes 0.
+fn row_shaped(which: usize, sets: &[u64; Rig::SITES], a: u64, row: &[u64; Rig::SITES]) -> bool
+    ensures { λ r. ⌜ r ≡ all (λ b. cellShaped which (now (sets .entry)) a b (at 0 (now (row .entry)) b)) siteLimit ⌝ }
 {
+    if is_blank(row) {
+        return true;
+    }
     for i in 0..Rig::SITES {
-        if !heir_shaped(sets, k, i as u64 + 1, row[i]) {
+        if !cell_shaped(which, sets, a, i as u64 + 1, row[i]) {
             return false;
         }
     }
     true
 }
 
-// What each site has as its heir for each arbiter.
-pub fn heirs_shaped(sets: &[u64; Rig::SITES], table: &Table) -> bool
-    ensures { λ r. ⌜ r ≡ eachRow (heirsFit (now (sets .entry))) (now (table .entry)) ⌝ }
+// Every row of the table.
+fn table_shaped(which: usize, sets: &[u64; Rig::SITES], table: &Table) -> bool
+    ensures { λ r. ⌜ r ≡ everywhere (cellShaped which (now (sets .entry))) (now (table .entry)) ⌝ }
 {
     for i in 0..Rig::SITES {
-        let row = table[i];
-        if !heir_row_shaped(sets, i as u64 + 1, &row) {
+        if !row_shaped(which, sets, i as u64 + 1, &table[i]) {
             return false;
         }
     }
     true
 }
 
-// Arbiter j's queue: a site queued has j in its set.
-fn queue_shaped(sets: &[u64; Rig::SITES], j: u64, row: &[u64; Rig::SITES]) -> bool
-    ensures { λ r. ⌜ r ≡ queueFits (now (sets .entry)) j (now (row .entry)) ⌝ }
+// All four tables, with the request sets of their rig.
+pub fn tables_shaped(sets: &[u64; Rig::SITES], tables: &Tables) -> bool
+    ensures { λ r. let s = now (sets .entry) in let t = now (tables .entry) in ⌜ r ≡ everywhere (ownShaped s) (getD t HELD [])
+        && (everywhere (heirShaped s) (getD t HEIR []) && (everywhere (ownShaped s) (getD t INQUIRED []) && everywhere (queuedShaped s) (getD t QUEUED []))) ⌝ }
 {
-    for i in 0..Rig::SITES {
-        if !entry_shaped(tied(sets, i as u64 + 1, j), row[i]) {
-            return false;
-        }
+    if !table_shaped(Rig::HELD, sets, &tables[Rig::HELD]) {
+        return false;
     }
-    true
-}
-
-// What each arbiter has queued of each site.
-pub fn queues_shaped(sets: &[u64; Rig::SITES], table: &Table) -> bool
-    ensures { λ r. ⌜ r ≡ eachRow (queueFits (now (sets .entry))) (now (table .entry)) ⌝ }
-{
-    for i in 0..Rig::SITES {
-        let row = table[i];
-        if !queue_shaped(sets, i as u64 + 1, &row) {
-            return false;
-        }
+    if !table_shaped(Rig::HEIR, sets, &tables[Rig::HEIR]) {
+        return false;
     }
-    true
+    if !table_shaped(Rig::INQUIRED, sets, &tables[Rig::INQUIRED]) {
+        return false;
+    }
+    table_shaped(Rig::QUEUED, sets, &tables[Rig::QUEUED])
 }

@@ -1,7 +1,8 @@
 -- `site_shaped`: a site's two tests, or a blank one's.
 use mathlib.Core.Path.{sym, _∙_}
-use borrow.Author.Tests.{eq-eqb, ne-eqb, not-true, not-false}
-use Rattle.model.specs.Shape.{siteBlank}
+use borrow.Author.Tests.{eq-eqb, ne-eqb}
+use Rattle.basics.proofs.Tests.{failed, passed, and-failed, and-passed}
+use Rattle.model.specs.Shape.{siteShaped, siteBlank}
 use borrow.Author.Needs.{needs}
 use Rattle.shape_rig.proofs.site_shaped.Statement.{statement}
 use Rattle.shape_rig.proofs.site_shaped.Tie as tie
@@ -13,24 +14,36 @@ is-number-requires : tie.Need-is-number-requires
 is-number-requires c κs = search needs
 
 returns : tie.Need-returns
-returns c = rw (sym (c .before .before .before .is-site .ensures) ∙ c .before .before .if1 .taken, sym (c .before .is-number .ensures) ∙ not-true _ (c .if2 .taken))
+unfolding siteShaped
+returns c =
+    let site = c .before .before in
+    rw (sym (site .before .is-site .ensures) ∙ site .if1 .taken) (and-failed _ (failed (c .before .is-number .ensures) (c .if2 .taken)))
 
 mode-shaped-requires : tie.Need-mode-shaped-requires
 mode-shaped-requires c κs = search needs
 
 returns-2 : tie.Need-returns-2
-returns-2 c = rw (sym (c .before .before .before .before .is-site .ensures) ∙ c .before .before .before .if1 .taken, sym (c .before .before .is-number .ensures) ∙ not-false _ (c .before .if2 .left)) (c .mode-shaped .ensures)
+unfolding siteShaped
+returns-2 c =
+    let number = c .before in
+    let site = number .before .before in
+    rw (sym (site .before .is-site .ensures) ∙ site .if1 .taken)
+    (and-passed (passed (number .before .is-number .ensures) (number .if2 .left)) (c .mode-shaped .ensures))
 
 returns-3 : tie.Need-returns-3
-unfolding siteBlank
-returns-3 c = rw (sym (c .before .before .before .is-site .ensures) ∙ c .before .before .if1 .left, ne-eqb _ 0 (c .if3 .taken))
+unfolding siteShaped siteBlank
+returns-3 c =
+    let past = c .before .before in
+    rw (sym (past .before .is-site .ensures) ∙ past .if1 .left) (and-failed _ (ne-eqb _ 0 (c .if3 .taken)))
 
 is-resting-requires : tie.Need-is-resting-requires
 is-resting-requires c κs = search needs
 
 returns-4 : tie.Need-returns-4
-unfolding siteBlank
-returns-4 c = rw (sym (c .before .before .before .before .is-site .ensures) ∙ c .before .before .before .if1 .left, eq-eqb _ 0 (c .before .if3 .left)) (c .is-resting .ensures)
+unfolding siteShaped siteBlank
+returns-4 c =
+    let past = c .before .before .before in
+    rw (sym (past .before .is-site .ensures) ∙ past .if1 .left) (and-passed (eq-eqb _ 0 (c .before .if3 .left)) (c .is-resting .ensures))
 
 pub site-shaped-spec : {M : Type 1} → statement M
 site-shaped-spec =

@@ -1,2 +1,0 @@
--- What a message is about, by its kind.
-pub mod Abouts

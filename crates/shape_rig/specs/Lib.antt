@@ -1,2 +1,0 @@
--- The tests of model/specs/Shape on one set, site or arbiter.
-pub mod Parts
