@@ -7,10 +7,11 @@ use lib.ListN.{replicate}
 use Rattle.rig.specs.declared.Event.{Event}
 use Rattle.rig.specs.declared.Event.the-variants.{Ask, Leave, Deliver}
 use Rattle.rig.specs.Limits.{messageLimit}
-use Rattle.model.specs.Event as M
-use Rattle.list_rows.specs.declared.Found.{Found}
-use Rattle.list_rows.specs.declared.Found.the-variants.{At, Nowhere}
-use Rattle.list_rows.specs.Places.{zeroRow}
+use Rattle.model.specs.State.{Stored}
+use Rattle.model.specs.Event.{Answer, answer, tested}
+use Rattle.list_search.specs.declared.Found.{Found}
+use Rattle.list_search.specs.declared.Found.the-variants.{At, Nowhere}
+use Rattle.list_rows.specs.Rows.{zeroRow}
 
 -- the sender of a delivery, and its receiver; 0 for an ask or a leave
 abbrev pub senderOf : Event → ℕ
@@ -31,8 +32,8 @@ abbrev pub blankRows : List (List ℕ)
 blankRows = replicate messageLimit zeroRow
 
 -- an event on a state in rows, where the list has that length
-unfoldable pub judgedRows : ℕ → M.Stored → Event → M.Answer
-judgedRows len s e = cond (not (eqb len messageLimit)) (M.answer 13 s) (M.event s e)
+unfoldable pub judgedRows : ℕ → Stored → Event → Answer
+judgedRows len s e = cond (not (eqb len messageLimit)) (answer 13 s) (tested s e)
 
 -- the place from which an event changes the list
 abbrev pub placeOf : ℕ → Found → ℕ

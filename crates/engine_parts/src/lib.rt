@@ -1,15 +1,15 @@
 // What the engine's public call does besides lending its list: each part over plain numbers.
-use event_storing::Answer;
-use list_rows::Found;
-use list_rows::Row;
+use list_rows::Rows;
+use list_search::Found;
+use rig::Answer;
 use rig::Event;
+use rig::Message;
 use rig::Rig;
-use rig::Table;
+use rig::Tables;
 ghost use mathlib.Core.Path.{_≡_};
-ghost use Rattle.event_storing.specs.Whole.{stored, answered};
+ghost use Rattle.list_rows.specs.Rows.{ZeroPast};
+ghost use Rattle.list_rows.specs.State.{before, after};
 ghost use Rattle.engine_parts.specs.Parts.{senderOf, receiverOf, readOf, blankRows, judgedRows, changedFrom};
-
-pub type Rows = [Row; Rig::MESSAGES];
 
 // The site that a delivery is from, 0 for an ask or a leave.
 pub fn sender(e: Event) -> u64
@@ -50,31 +50,18 @@ pub fn read_count(count: usize, len: usize) -> usize
 pub fn blank_rows() -> Rows
     ensures { λ r. ⌜ r ≡ blankRows ⌝ }
 {
-    [[0; 5]; Rig::MESSAGES]
+    [[0; Message::FIELDS]; Rig::MESSAGES]
 }
 
-// One event on rows, where the list that they were read from has that length.
-pub fn on_rows(
-    rig: Rig,
-    held: &mut Table,
-    heir: &mut Table,
-    inquired: &mut Table,
-    queued: &mut Table,
-    rows: &mut [Row],
-    len: usize,
-    count: usize,
-    e: Event,
-) -> Answer
-    ensures { λ r. ⌜ answered r (now (held .exit)) (now (heir .exit)) (now (inquired .exit)) (now (queued .exit)) (now (rows .exit)) ≡ judgedRows len (stored rig (now (held .entry)) (now (heir .entry)) (now (inquired .entry)) (now (queued .entry)) (now (rows .entry)) count) e ⌝ }
+// An inner call: one event on rows, where the list that they were read from has that length.
+pub fn on_rows(rig: Rig, tables: &mut Tables, rows: &mut Rows, len: usize, count: usize, e: Event) -> Answer
+    requires { ⌜ ZeroPast count (now rows) ⌝ }
+    ensures { λ r. ⌜ after r tables rows ≡ judgedRows len (before rig tables rows count) e ⌝ }
 {
     if len != Rig::MESSAGES {
-        return Answer {
-            code: 13,
-            rig: rig,
-            count: count,
-        };
+        return Answer::refused(13, rig, count);
     }
-    event_rows::event(rig, held, heir, inquired, queued, rows, count, e)
+    event_rows::event(rig, tables, rows, count, e)
 }
 
 // The place from which an event changes the list: where its message was found, behind the last message where it takes none off, and

@@ -1,5 +1,5 @@
 -- The rig with an event's outcome stored at its site is the state that the event leaves.
-use Prim.Native.Nat.{ℕ, _+_}
+use Prim.Native.Nat.{ℕ, _+_, _-_}
 use mathlib.Core.Path.{_≡_, refl, sym, ap, subst, _∙_}
 use mathlib.Core.Bool.{Bool, true, false, cond}
 use mathlib.Core.List.{List, [], map}
@@ -14,6 +14,7 @@ use Rattle.rig.specs.declared.Event.{Event}
 use Rattle.rig.specs.declared.Event.the-variants.{Ask, Leave, Deliver}
 use Rattle.rig.specs.declared.Message.{Message}
 use Rattle.rig.specs.Limits.{HELD, HEIR, INQUIRED, QUEUED, messageLimit}
+use Rattle.model.specs.Tables.{put}
 use Rattle.model.specs.Setup.{restingSite, freeArbiter}
 use Rattle.model.specs.State.{Stored, underWay, inRange, tables, withDesk, withAccepted, deskOf}
 use Rattle.model.specs.Event.{actor, sitesNamed, Attempt, refused, possible, attempt, effectCode, Outcome, outcome, judged, eventAt, Answer, answer, accepted, settled, played, tested, event}
@@ -29,7 +30,7 @@ use Rattle.event_desks.specs.Parts.{deskAt, withRows}
 use Rattle.event_storing.specs.declared.Done.{Done}
 use Rattle.event_storing.specs.Leaves.{Left, messagesIn}
 use Rattle.event_at_site.specs.Places.{placeOf, countedOn}
-use Rattle.event_rows.specs.Steps.{InRun}
+use Rattle.event_rows.specs.Steps.{InRun, Steps}
 use Rattle.event_rows.proofs.Ready.{under-way, deskFrom, desk-of}
 
 -- A refusal leaves the desk as it came.
@@ -109,13 +110,21 @@ module _ (g : Rig) (ts ts′ : List (List (List ℕ))) (rows rows′ : List (Lis
 
     -- accepted: the outcome at its site
     module _ (h : eqb (o .code) 0 ≡ true) where
+      index : i ≡ k - 1
+      index = rw (in-range h)
+
+      next-rig : next ≡ withAccepted (withDesk (tables g ts) k (o .desk)) (g .accepted + 1) .rig
+      unfolding withAccepted withDesk
+      next-rig =
+          let low = within (g .size) k (in-range h) .0 in
+          let s : set (g .sites) i (r .site) ≡ put (g .sites) k (o .desk .site) = ap (λ (j : ℕ). set (g .sites) j (r .site)) index ∙ ap (set (g .sites) (k - 1)) (l .site) ∙ sym (put-write (g .sites) k (o .desk .site) low) in
+          let a : set (g .arbiters) i (r .arbiter) ≡ put (g .arbiters) k (o .desk .arbiter) = ap (λ (j : ℕ). set (g .arbiters) j (r .arbiter)) index ∙ ap (set (g .arbiters) (k - 1)) (l .arbiter) ∙ sym (put-write (g .arbiters) k (o .desk .arbiter) low) in
+          let c : countedOn (g .accepted) (r .code) ≡ g .accepted + 1 = rw (l .code, h) in
+          λ j. record { size = g .size; sets = g .sets; sites = s j; arbiters = a j; accepted = c j }
+
       next-tables : tables next ts′ ≡ withAccepted (withDesk (tables g ts) k (o .desk)) (g .accepted + 1)
       unfolding withAccepted withDesk
-      next-tables =
-          let b = in-range h in
-          let low = within (g .size) k b .0 in
-          l .rows next
-          ∙ rw (l .site, l .arbiter, l .code, h, b, put-write (g .sites) k (o .desk .site) low, put-write (g .arbiters) k (o .desk .arbiter) low)
+      next-tables = l .rows next ∙ ap (λ (x : Rig). withRows (tables x ts) k (o .desk)) next-rig
 
       acceptance : _≡_ {A = Answer} (record { code = r .code; next = stored next ts′ rows′ (r .count) }) (played (stored g ts rows n) e)
       unfolding played settled accepted
@@ -127,8 +136,11 @@ module _ (g : Rig) (ts ts′ : List (List (List ℕ))) (rows rows′ : List (Lis
     stepped = by-bool (eqb (o .code) 0) acceptance refusal
 
 -- the next state of a run on a list of 1,024 entries
-pub again : (s : Stored) (e : Event) (a : Answer) → a ≡ played s e → InRun s → InRun (a .next)
+again : (s : Stored) (e : Event) (a : Answer) → a ≡ played s e → InRun s → InRun (a .next)
 unfolding event tested
 again s e a q r =
     let same : event s e ≡ a = rw (eq-eqb _ messageLimit (r .long), run-shaped (r .run)) (sym q) in
     subst (λ (x : Answer). InRun (x .next)) same (record { run = next-of-run (r .run) e; long = event-long s e (r .long) })
+
+pub steps : (s : Stored) (e : Event) (a : Answer) → a ≡ played s e → Steps s e a
+steps s e a q = record { answer = q; again = again s e a q }

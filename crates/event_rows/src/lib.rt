@@ -7,11 +7,14 @@ use list_rows::Outbox;
 use list_rows::Rows;
 use rig::Answer;
 use rig::Event;
+use rig::Message;
 use rig::Rig;
 use rig::Tables;
+use shape_state::well_shaped;
 ghost use mathlib.Core.Path.{_≡_};
 ghost use mathlib.Core.Bool.{true};
 ghost use Rattle.model.specs.Shape.{wellShaped};
+ghost use Rattle.model.specs.Event.{tested};
 ghost use Rattle.list_rows.specs.Rows.{ZeroPast};
 ghost use Rattle.list_rows.specs.State.{stored, before, after};
 ghost use Rattle.event_rows.specs.Steps.{Steps};
@@ -55,4 +58,16 @@ pub fn step(
         rig: next,
         count: done.count,
     }
+}
+
+// An inner call: an event on any state whose rows past the count are zeros: 10 where it is misshapen.
+pub fn event(rig: Rig, tables: &mut Tables, list: &mut Rows, count: usize, e: Event) -> Answer
+    requires { ⌜ ZeroPast count (now list) ⌝ }
+    ensures { λ r. ⌜ after r tables list ≡ tested (before rig tables list count) e ⌝ }
+{
+    if !well_shaped(rig, tables, list, count) {
+        return Answer::refused(10, rig, count);
+    }
+    let mut out = [[0; Message::FIELDS]; Rig::SENT];
+    step(rig, tables, list, &mut out, count, e)
 }

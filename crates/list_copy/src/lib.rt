@@ -11,7 +11,7 @@ ghost use Prim.Native.Nat.{_<_, _≤_, _-_};
 ghost use lib.ListN.{length, drop, getD, set};
 ghost use lib.Seq.{paste};
 ghost use Rattle.list_rows.specs.Rows.{rowOf, messageOf};
-ghost use Rattle.list_rows.specs.Places.{zeroRow};
+ghost use Rattle.list_rows.specs.Rows.{zeroRow};
 
 // An inner call: row i becomes a message's.
 fn put_row(rows: &mut [Row], i: usize, m: Message)

@@ -9,9 +9,9 @@ use borrow.Author.Tests.{ltb-true, ltb-false}
 use lib.Dec.{ltb}
 use lib.ListN.{length, getD, take, drop}
 use lib.Seq.{drop-cons, drop-length, getD-take, length-take-le, take-all}
-use Rattle.list_rows.specs.declared.Found.{Found}
-use Rattle.list_rows.specs.declared.Found.the-variants.{At, Nowhere}
-use Rattle.list_rows.specs.Places.{placeFrom}
+use Rattle.list_search.specs.declared.Found.{Found}
+use Rattle.list_search.specs.declared.Found.the-variants.{At, Nowhere}
+use Rattle.list_search.specs.Places.{placeFrom}
 use Rattle.list_lent.specs.First.{smaller}
 
 -- the smaller of a count and a length is a place in the list, or its end

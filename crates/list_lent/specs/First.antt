@@ -5,8 +5,8 @@ use mathlib.Core.List.{List}
 use lib.Dec.{ltb}
 use Rattle.rig.specs.declared.Message.{Message}
 use Rattle.model.specs.Deliver.{between}
-use Rattle.list_rows.specs.declared.Found.{Found}
-use Rattle.list_rows.specs.Places.{placeFrom}
+use Rattle.list_search.specs.declared.Found.{Found}
+use Rattle.list_search.specs.Places.{placeFrom}
 
 -- the place of the first message from a to b; `foundIn` of mail says the same of rows
 abbrev pub firstIn : ℕ → ℕ → List Message → Found

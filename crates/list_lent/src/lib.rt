@@ -1,6 +1,6 @@
 // The list of messages as the engine's caller lends it: a slice of message structs, in two thin functions.
-use list_rows::Found;
-use list_rows::is_between;
+use list_search::Found;
+use list_search::is_between;
 use rig::Message;
 ghost use mathlib.Core.Path.{_≡_};
 ghost use Prim.Native.Nat.{_<_, _+_};

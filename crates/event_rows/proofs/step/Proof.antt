@@ -6,7 +6,7 @@ use Rattle.model.specs.Event.{actor}
 use Rattle.list_rows.specs.State.{stored}
 use Rattle.event_at_site.specs.Places.{placeOf}
 use Rattle.event_rows.proofs.Ready.{ready, size-high, accepted-high}
-use Rattle.event_rows.proofs.Stepping.{stepped, again}
+use Rattle.event_rows.proofs.Stepping.{stepped, steps}
 use Rattle.event_rows.proofs.step.Statement.{statement}
 use Rattle.event_rows.proofs.step.Tie as tie
 use Rattle.event_at_site.proofs.actor.Reads as actor-reads
@@ -20,7 +20,7 @@ actor-requires c κs = search needs
 place-of-requires : tie.Need-place-of-requires
 place-of-requires c κs =
     let a = c .before .args in
-    size-high (a .rig) (now (a .tables)) 0 (now (a .list)) (a .count) (c .before .pre .0)
+    size-high (a .t1) (now (a .tables)) 0 (now (a .list)) (a .count) (c .before .pre .0)
 
 mul-site : tie.Need-mul-site
 mul-site c = search needs
@@ -44,7 +44,7 @@ step-at-requires : tie.Need-step-at-requires
 step-at-requires c κs =
     let a = c .before .before .before .before .before .before .before .before .args in
     let p = c .before .before .before .before .before .before .before .before .pre in
-    rw (c .before .before .before .before .before .before .place-of .ensures .0, c .before .before .before .before .before .before .before .actor .ensures) (ready (a .rig) (now (a .tables)) (actor (a .e)) (now (a .list)) (a .count) (p .0) (p .1))
+    rw (c .before .before .before .before .before .before .place-of .ensures .0, c .before .before .before .before .before .before .before .actor .ensures) (ready (a .t1) (now (a .tables)) (actor (a .e)) (now (a .list)) (a .count) (p .0) (p .1))
 
 mul-site-after : tie.Need-mul-site-after
 mul-site-after c = search needs
@@ -61,16 +61,15 @@ element-set-from-arbiter-after c = search needs
 counted-on-requires : tie.Need-counted-on-requires
 counted-on-requires c κs =
     let a = c .before .before .before .before .before .before .before .before .before .before .before .args in
-    accepted-high (a .rig) (now (a .tables)) 0 (now (a .list)) (a .count) (c .before .before .before .before .before .before .before .before .before .before .before .pre .0)
+    accepted-high (a .t1) (now (a .tables)) 0 (now (a .list)) (a .count) (c .before .before .before .before .before .before .before .before .before .before .before .pre .0)
 
 returns : tie.Need-returns
 returns c =
     let a = c .before .before .before .before .before .before .before .before .before .before .before .before .args in
-    let s = stored (a .rig) (now (a .tables)) (now (a .list)) (a .count) in
-    let i : c .before .before .before .before .before .before .before .before .before .before .place-of .result ≡ placeOf (a .rig .size) (actor (a .e)) = rw (c .before .before .before .before .before .before .before .before .before .before .before .actor .ensures) at (c .before .before .before .before .before .before .before .before .before .before .place-of .ensures .0) in
+    let s = stored (a .t1) (now (a .tables)) (now (a .list)) (a .count) in
+    let i : c .before .before .before .before .before .before .before .before .before .before .place-of .result ≡ placeOf (a .t1 .size) (actor (a .e)) = rw (c .before .before .before .before .before .before .before .before .before .before .before .actor .ensures) at (c .before .before .before .before .before .before .before .before .before .before .place-of .ensures .0) in
     let l = rw i at (c .before .before .before .step-at .ensures) in
-    let q = rw (i, c .counted-on .ensures) (stepped (a .rig) (now (a .tables)) _ (now (a .list)) _ (a .count) (a .e) (c .before .before .before .step-at .result) l) in
-    (record { answer = q; again = again s (a .e) _ q }, l .zeros)
+    (steps s (a .e) _ (rw (i, c .counted-on .ensures) (stepped (a .t1) (now (a .tables)) _ (now (a .list)) _ (a .count) (a .e) (c .before .before .before .step-at .result) l)), l .zeros)
 
 pub step-spec : {M : Type 1} → statement M
 step-spec =

@@ -57,7 +57,7 @@ use Rattle.rig.specs.declared.Message.{Message}
 use Rattle.rig.proofs.Message as T
 use Rattle.rig.proofs.Message.Laws as T′
 use Rattle.list_rows.specs.Rows.{messageOf}
-use Rattle.list_rows.specs.Places.{zeroRow}
+use Rattle.list_rows.specs.Rows.{zeroRow}
 use Rattle.list_lent.proofs.append as append
 use Rattle.list_lent.proofs.append.Symbol as append-def
 use Rattle.list_lent.proofs.append.Symbol.{name as #list-lent·append}

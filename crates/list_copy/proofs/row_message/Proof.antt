@@ -4,7 +4,7 @@ use mathlib.Core.List.{[]}
 use lib.ListN.{List·getD-map}
 use borrow.Author.Needs.{needs}
 use Rattle.list_rows.specs.Rows.{messageOf}
-use Rattle.list_rows.specs.Places.{zeroRow}
+use Rattle.list_rows.specs.Rows.{zeroRow}
 use Rattle.list_copy.proofs.row_message.Statement.{statement}
 use Rattle.list_copy.proofs.row_message.Tie as tie
 

@@ -54,15 +54,15 @@ use Rattle.rig.proofs.Message as T
 use Rattle.rig.proofs.Message.Laws as T′
 use Rattle.model.specs.Deliver.{between}
 use Rattle.model.specs.Event.{blankMessage}
-use Rattle.list_rows.specs.declared.Found.{Found}
-use Rattle.list_rows.specs.declared.Found.the-variants.{At, Nowhere}
-use Rattle.list_rows.specs.Places.{placeFrom}
-use Rattle.list_rows.proofs.Found as F
-use Rattle.list_rows.proofs.Found.Laws as F′
-use Rattle.list_rows.proofs.is_between as is-between
-use Rattle.list_rows.proofs.is_between.Symbol as is-between-def
-use Rattle.list_rows.proofs.is_between.Symbol.{name as #list-rows·is-between}
-use Rattle.list_rows.proofs.is_between.Met as is-between-thm
+use Rattle.list_search.specs.declared.Found.{Found}
+use Rattle.list_search.specs.declared.Found.the-variants.{At, Nowhere}
+use Rattle.list_search.specs.Places.{placeFrom}
+use Rattle.list_search.proofs.Found as F
+use Rattle.list_search.proofs.Found.Laws as F′
+use Rattle.list_search.proofs.is_between as is-between
+use Rattle.list_search.proofs.is_between.Symbol as is-between-def
+use Rattle.list_search.proofs.is_between.Symbol.{name as #list-search·is-between}
+use Rattle.list_search.proofs.is_between.Met as is-between-thm
 use Rattle.list_lent.specs.First.{firstIn, smaller}
 use Rattle.list_lent.proofs.Search.{smaller-le, take-smaller, hit, miss, over}
 use Rattle.list_lent.proofs.used as used
@@ -164,7 +164,7 @@ module _ {M : Type 1} (𝓤 : URA M) (H : Heap 𝓤) (A : Atoms 𝓤) (W : Given
   abbrev slice : Ty
   slice = sliceTy (tyRef (named 0) imm (pointee (T.the-row .written)))
 
-  module _ (𝓣 : Tables 𝓤 H) (known : Triple 𝓤 (𝓣 .C #list-rows·is-between) (IsBetween 𝓤 H A mem run)) (l₀ l₁ l₂ l₃ l₄ l₅ l₆ l₇ l₈ l₉ l₁₀ l₁₁ l₁₂ : ℕ) (n : ℕ) (gn : n < 2 ^ 64) (le : n ≤ length ys) (same : take n ys ≡ take c ys) where
+  module _ (𝓣 : Tables 𝓤 H) (known : Triple 𝓤 (𝓣 .C #list-search·is-between) (IsBetween 𝓤 H A mem run)) (l₀ l₁ l₂ l₃ l₄ l₅ l₆ l₇ l₈ l₉ l₁₀ l₁₁ l₁₂ : ℕ) (n : ℕ) (gn : n < 2 ^ 64) (le : n ≤ length ys) (same : take n ys ≡ take c ys) where
     abbrev C : Calls 𝓤 H
     C = 𝓣 .C
 
@@ -271,7 +271,7 @@ module _ {M : Type 1} (𝓤 : URA M) (H : Heap 𝓤) (A : Atoms 𝓤) (W : Given
     looped : Sq W (Turn start) (runs C Λ En mir′.t-4 (atRet En Post))
     looped = into ! $ blocks ! $ loops ! 𝓣 Nearer Nearer-wf Turn turns start
 
-  walk : (𝓣 : Tables 𝓤 H) → Triple 𝓤 (𝓣 .C #list-rows·is-between) (IsBetween 𝓤 H A mem run) → Triple 𝓤 (𝓣 .C #list-lent·used) (Used 𝓤 H A mem run) → ent 𝓤 (onEntry 𝓤 H A first.signature (κ, tt) (q, tt) x at)
+  walk : (𝓣 : Tables 𝓤 H) → Triple 𝓤 (𝓣 .C #list-search·is-between) (IsBetween 𝓤 H A mem run) → Triple 𝓤 (𝓣 .C #list-lent·used) (Used 𝓤 H A mem run) → ent 𝓤 (onEntry 𝓤 H A first.signature (κ, tt) (q, tt) x at)
       (WpFn 𝓤 H (𝓣 .C) (𝓣 .Λ) code.function (sliceVal (bk, o) (length ys) ∷ vint w64 c ∷ vint w64 a ∷ vint w64 b ∷ []) Post)
   walk 𝓣 known bounds =
       qed W ((‵ (flft κ q) ⊛ ‵ ftrue) ∷ ‵ (owns (ShrSlice (named 0) κ T.the-row ∷ usize ∷ u64 ∷ u64 ∷ []) x at) ∷ []) ∵ enter ! (𝓣 .C) (𝓣 .Λ) code.function (sliceVal (bk, o) (length ys) ∷ vint w64 c ∷ vint w64 a ∷ vint w64 b ∷ []) _ $
@@ -294,7 +294,7 @@ module _ {M : Type 1} (𝓤 : URA M) (H : Heap 𝓤) (A : Atoms 𝓤) (W : Given
       looped 𝓣 known l₀ l₁ l₂ l₃ l₄ l₅ l₆ l₇ l₈ l₉ l₁₀ l₁₁ l₁₂ n (is .1) (subst (λ (k : ℕ). k ≤ length ys) (sym e) (smaller-le c (length ys))) (ap (λ (k : ℕ). take k ys) e ∙ take-smaller c ys))))))))))))))))))
 
 module _ {M : Type 1} (𝓤 : URA M) (H : Heap 𝓤) (A : Atoms 𝓤) (W : Given 𝓤 H A) (mem : Memory → SProp 𝓤) (run : Routine → Fun 𝓤) where
-  first-walks : (𝓣 : Tables 𝓤 H) → Triple 𝓤 (𝓣 .C #list-rows·is-between) (IsBetween 𝓤 H A mem run) → Triple 𝓤 (𝓣 .C #list-lent·used) (Used 𝓤 H A mem run)
+  first-walks : (𝓣 : Tables 𝓤 H) → Triple 𝓤 (𝓣 .C #list-search·is-between) (IsBetween 𝓤 H A mem run) → Triple 𝓤 (𝓣 .C #list-lent·used) (Used 𝓤 H A mem run)
       → Walks 𝓤 H A first.ended stayed (WpFn 𝓤 H (𝓣 .C) (𝓣 .Λ) code.function) (first.clauses 𝓤 H A mem run)
   first-walks 𝓣 known bounds = walked 𝓤 H A first.ended stayed (first.clauses 𝓤 H A mem run) (WpFn 𝓤 H (𝓣 .C) (𝓣 .Λ) code.function)
       (λ κs. (slice-vals, (uint-vals w64, (uint-vals w64, (uint-vals w64, tt))))) (λ κs. (shr-slice-tells (named 0) (κs .0) T.the-row, (uint-tells w64, (uint-tells w64, (uint-tells w64, tt)))))
@@ -305,7 +305,7 @@ module _ {M : Type 1} (𝓤 : URA M) (H : Heap 𝓤) (A : Atoms 𝓤) (W : Given
   goes = (goes-none-slice 𝓤 H A W 1 (0 ∷ []) tt (plain (λ _. T.the-row)) yes, (goes-none 𝓤 H A W 1 (λ _. usize) yes (λ κs x f. refl), (goes-none 𝓤 H A W 1 (λ _. u64) yes (λ κs x f. refl), (goes-none 𝓤 H A W 1 (λ _. u64) yes (λ κs x f. refl), tt))))
 
 first-meets : {M : Type 1} (𝓤 : URA M) (H : Heap 𝓤) (A : Atoms 𝓤) (W : Given 𝓤 H A) (mem : Memory → SProp 𝓤) (run : Routine → Fun 𝓤) (𝓣 : Tables 𝓤 H)
-    → Triple 𝓤 (𝓣 .C #list-rows·is-between) (IsBetween 𝓤 H A mem run) → Triple 𝓤 (𝓣 .C #list-lent·used) (Used 𝓤 H A mem run)
+    → Triple 𝓤 (𝓣 .C #list-search·is-between) (IsBetween 𝓤 H A mem run) → Triple 𝓤 (𝓣 .C #list-lent·used) (Used 𝓤 H A mem run)
     → Meets 𝓤 H A first.signature (WpFn 𝓤 H (𝓣 .C) (𝓣 .Λ) code.function) (first.spec 𝓤 H A mem run)
 first-meets 𝓤 H A W mem run 𝓣 known bounds =
     walk-meets 𝓤 H A first.ended stayed W (goes 𝓤 H A W mem run) (first.clauses 𝓤 H A mem run)
@@ -317,5 +317,5 @@ first-spec 𝓤 H 𝓜 𝓖 𝓡 =
     entered 𝓤 H (tripleOf 𝓤 H (𝓖 .A) first.signature (first.spec 𝓤 H (𝓖 .A) (𝓜 .mem) (𝓡 .run)))
     (tables 𝓤 H 𝓜 𝓡 code.env .C) (tables 𝓤 H 𝓜 𝓡 code.env .Λ) #list-lent·first code.function (code.unfolded 𝓤 H 𝓜 𝓡)
     (first-meets 𝓤 H (𝓖 .A) (givenOf 𝓤 H 𝓜 𝓖) (𝓜 .mem) (𝓡 .run) (tablesOf 𝓤 H 𝓜 (tables 𝓤 H 𝓜 𝓡 code.env))
-    (cited 𝓤 H (IsBetween 𝓤 H (𝓖 .A) (𝓜 .mem) (𝓡 .run)) 𝓜 𝓡 code.env #list-rows·is-between is-between-def.routine code.calls-list-rows·is-between (is-between-thm.met 𝓤 H 𝓜 𝓖 𝓡))
+    (cited 𝓤 H (IsBetween 𝓤 H (𝓖 .A) (𝓜 .mem) (𝓡 .run)) 𝓜 𝓡 code.env #list-search·is-between is-between-def.routine code.calls-list-search·is-between (is-between-thm.met 𝓤 H 𝓜 𝓖 𝓡))
     (cited 𝓤 H (Used 𝓤 H (𝓖 .A) (𝓜 .mem) (𝓡 .run)) 𝓜 𝓡 code.env #list-lent·used used-def.routine code.calls-list-lent·used (used-thm.met 𝓤 H 𝓜 𝓖 𝓡)))
