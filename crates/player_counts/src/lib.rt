@@ -10,7 +10,6 @@ ghost use Rattle.rig.specs.Limits.{siteLimit};
 ghost use Rattle.model.specs.State.{isWaiting};
 ghost use Rattle.model.specs.Run.{waitingCount};
 ghost use Rattle.model.specs.Printed.{insideUpTo};
-ghost use Rattle.members.specs.Ties.{tablesOf};
 
 // How many sites there are to look at: a rig holds no more than 31.
 fn stored_sites(size: u64) -> usize
@@ -25,7 +24,7 @@ fn stored_sites(size: u64) -> usize
 
 // The site inside, the lowest where there are several, 0 none.
 pub fn inside(rig: Rig) -> u64
-    ensures { λ r. ⌜ r ≡ insideUpTo (tablesOf rig) (rig .size) ⌝ }
+    ensures { λ r. ⌜ r ≡ insideUpTo rig (rig .size) ⌝ }
 {
     let n = stored_sites(rig.size);
     for i in 0..n {
@@ -47,7 +46,7 @@ fn with_site(n: u64, site: Site) -> u64
 
 // How many sites wait.
 pub fn waiting(rig: Rig) -> u64
-    ensures { λ r. ⌜ r ≡ waitingCount (tablesOf rig) ⌝ }
+    ensures { λ r. ⌜ r ≡ waitingCount rig ⌝ }
 {
     let end = stored_sites(rig.size);
     let mut n = 0;
