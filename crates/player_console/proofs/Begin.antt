@@ -6,11 +6,11 @@ use lib.ListN.{replicate, length-replicate}
 use Rattle.rig.specs.Limits.{messageLimit, blankTable}
 use Rattle.list_rows.specs.Places.{zeroRow}
 use Rattle.player_text.specs.declared.Player.{Player}
-use Rattle.player_text.specs.Playing.{beginning, Playing}
+use Rattle.player_text.specs.Calls.{beginning, PlayerFits}
 
 pub playing : {p : Player} {held heir inquired queued : List (List ℕ)} → p ≡ beginning
     → held ≡ blankTable → heir ≡ blankTable → inquired ≡ blankTable → queued ≡ blankTable
-    → Playing p held heir inquired queued (replicate messageLimit zeroRow)
+    → PlayerFits p held heir inquired queued (replicate messageLimit zeroRow)
 playing e a b c d = rw e (record {
   long = length-replicate messageLimit zeroRow;
   fits = record { noneHeld = a; noHeir = b; noneInquired = c; noneQueued = d; noneUnderWay = refl };

@@ -2,7 +2,7 @@
 // The buffers are fixed: a line's first bytes wait at the front of the input until the rest of it is read.
 use player_grammar::LINE_LIMIT;
 use libc::STDOUT_FILENO;
-use list_rows::Row;
+use list_rows::Rows;
 use player_lines::finish;
 use player_lines::line;
 use player_text::Player;
@@ -10,12 +10,12 @@ use player_text::Stage;
 use player_text::begin;
 use player_printing::PAGE_LENGTH;
 use rig::Rig;
-use rig::Table;
+use rig::Tables;
 ghost use mathlib.Core.Path.{_≡_};
 ghost use Prim.Native.Nat.{_≤_, _<_, _+_};
 ghost use lib.ListN.{length};
 ghost use Rattle.player_printing.specs.Printing.{pageLength};
-ghost use Rattle.player_text.specs.Playing.{Playing};
+ghost use Rattle.player_text.specs.Calls.{PlayerFits};
 
 // What is left of a chunk of input: the player, and where the first line that has no end yet begins.
 struct Rest {
@@ -61,17 +61,14 @@ fn put_out(output: &mut [u8], at: usize, page: &[u8], n: usize) -> usize
 // An inner call: plays the lines that end within the first `filled` bytes, and writes what they print.
 fn play_lines(
     p: Player,
-    held: &mut Table,
-    heir: &mut Table,
-    inquired: &mut Table,
-    queued: &mut Table,
-    list: &mut [Row],
+    tables: &mut Tables,
+    list: &mut Rows,
     input: &[u8],
     filled: usize,
     output: &mut [u8],
 ) -> Rest
-    requires { ⌜ Playing p (now held) (now heir) (now inquired) (now queued) (now list) × (filled ≤ length (now input)) × (pageLength ≤ length (now output)) ⌝ }
-    ensures { λ r. ⌜ Playing (r .player) (now (held .exit)) (now (heir .exit)) (now (inquired .exit)) (now (queued .exit)) (now (list .exit)) × (r .from ≤ filled) ⌝ }
+    requires { ⌜ PlayerFits p (now tables) (now list) × (filled ≤ length (now input)) × (pageLength ≤ length (now output)) ⌝ }
+    ensures { λ r. ⌜ PlayerFits (r .player) (now (tables .exit)) (now (list .exit)) × (r .from ≤ filled) ⌝ }
 {
     let mut page = [0u8; PAGE_LENGTH];
     let mut q = p;
@@ -84,10 +81,7 @@ fn play_lines(
         }
         let said = line(
             q,
-            held,
-            heir,
-            inquired,
-            queued,
+            tables,
             list,
             &mut page,
             &input[from..end],
@@ -147,10 +141,7 @@ pub fn play_from(fd: i32) {
         }
         let rest = play_lines(
             p,
-            &mut held,
-            &mut heir,
-            &mut inquired,
-            &mut queued,
+            &mut tables,
             &mut list,
             &input,
             filled + got,
@@ -164,10 +155,7 @@ pub fn play_from(fd: i32) {
         if filled > LINE_LIMIT {
             let said = line(
                 p,
-                &mut held,
-                &mut heir,
-                &mut inquired,
-                &mut queued,
+                &mut tables,
                 &mut list,
                 &mut page,
                 &input[..filled],

@@ -12,7 +12,7 @@ ghost use Rattle.rig.specs.Limits.{siteLimit};
 ghost use Rattle.player_printing.specs.Printing.{stopLine, Printed};
 ghost use Rattle.player_text.specs.declared.Stage.the-variants.{Size, Sets};
 ghost use Rattle.player_text.specs.Player.{counted, sizeIn, setIn, onSize, allGiven, onSet};
-ghost use Rattle.player_text.specs.Playing.{beginning, over, BeforeEvents};
+ghost use Rattle.player_text.specs.Calls.{beginning, over, BeforeEvents};
 
 // Which line comes next: `sites=`, a `set=`, an event, or none, since the run has ended.
 pub enum Stage {

@@ -10,7 +10,7 @@ use Rattle.player_printing.specs.Printing.{pageLength}
 use Rattle.player_printing.proofs.Lines.{printed-part}
 use Rattle.player_text.specs.Player.{start}
 use Rattle.player_console.proofs.Begin.{playing}
-use Rattle.player_text.specs.Playing.{Playing}
+use Rattle.player_text.specs.Calls.{PlayerFits}
 use borrow.Author.Needs.{needs}
 use Rattle.player_console.proofs.play_from.Statement.{statement}
 use Rattle.player_console.proofs.play_from.Tie as tie
@@ -27,7 +27,7 @@ use Rattle.rig.proofs.Rig.blank.Reads as blank-reads
 
 abbrev Inv-loop : tie.InvT-loop
 Inv-loop fd held₀ heir₀ inquired₀ queued₀ list₀ input₀ output₀ page₀ p₀ filled₀ turns₀ held heir inquired queued list input output page p filled turns =
-    Playing p held heir inquired queued list × (filled ≤ lineLimit) × (length list ≡ messageLimit) × (length input ≡ 65_536) × (length output ≡ 65_536) × (length page ≡ pageLength)
+    PlayerFits p held heir inquired queued list × (filled ≤ lineLimit) × (length list ≡ messageLimit) × (length input ≡ 65_536) × (length output ≡ 65_536) × (length page ≡ pageLength)
 
 abbrev μ-loop : tie.MeasureT-loop
 μ-loop fd held₀ heir₀ inquired₀ queued₀ list₀ input₀ output₀ page₀ p₀ filled₀ turns₀ held heir inquired queued list input output page p filled turns =

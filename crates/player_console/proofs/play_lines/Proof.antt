@@ -6,7 +6,7 @@ use lib.ListN.{length}
 use lib.Seq.{length-take-le}
 use Rattle.player_printing.specs.Printing.{pageLength}
 use Rattle.player_printing.proofs.Lines.{printed-part}
-use Rattle.player_text.specs.Playing.{Playing}
+use Rattle.player_text.specs.Calls.{PlayerFits}
 use borrow.Author.Needs.{needs}
 use Rattle.player_console.proofs.play_lines.Statement.{statement}
 use Rattle.player_console.proofs.play_lines.Tie as tie
@@ -17,7 +17,7 @@ use Rattle.player_console.proofs.put_out.Reads as put-out-reads
 
 abbrev Inv-loop : tie.InvT-loop
 Inv-loop held₀ heir₀ inquired₀ queued₀ list₀ input filled output₀ page₀ q₀ from₀ at₀ held heir inquired queued list output page q from at =
-    Playing q held heir inquired queued list × (from ≤ filled) × (at ≤ length output) × (length output ≡ length output₀) × (length list ≡ length list₀) × (length page ≡ pageLength)
+    PlayerFits q held heir inquired queued list × (from ≤ filled) × (at ≤ length output) × (length output ≡ length output₀) × (length list ≡ length list₀) × (length page ≡ pageLength)
 
 abbrev μ-loop : tie.MeasureT-loop
 μ-loop held₀ heir₀ inquired₀ queued₀ list₀ input filled output₀ page₀ q₀ from₀ at₀ held heir inquired queued list output page q from at =
