@@ -9,6 +9,7 @@ use player_text::Player;
 use player_text::Stage;
 use player_text::begin;
 use player_printing::PAGE_LENGTH;
+use rig::Message;
 use rig::Rig;
 use rig::Tables;
 ghost use mathlib.Core.Path.{_≡_};
@@ -121,11 +122,8 @@ fn read_more(fd: i32, input: &mut [u8], filled: usize) -> usize
 
 // Plays the text that `fd` gives. Its turns are counted down from a number that no run uses up, since a proved loop has to end.
 pub fn play_from(fd: i32) {
-    let mut held = Rig::blank();
-    let mut heir = Rig::blank();
-    let mut inquired = Rig::blank();
-    let mut queued = Rig::blank();
-    let mut list = [[0u64; 5]; Rig::MESSAGES];
+    let mut tables = Rig::blank();
+    let mut list = [[0u64; Message::FIELDS]; Rig::MESSAGES];
     let mut input = io::large_buffer();
     let mut output = io::large_buffer();
     let mut page = [0u8; PAGE_LENGTH];
