@@ -49,7 +49,7 @@ none-read : (n : ℕ) (ms : List (List ℕ)) → ZeroPast n (paste blankRows 0 m
 none-read n ms = let e = paste-zero blankRows 0 ms in blank-past n
 
 -- past the count, the rows read from a list are zeros: it is the number of rows read, or no row is read
-pub rows-past : (n : ℕ) (ys : List Message) → ZeroPast n (paste blankRows 0 (map rowOf ys) (readOf n (length ys)))
+rows-past : (n : ℕ) (ys : List Message) → ZeroPast n (paste blankRows 0 (map rowOf ys) (readOf n (length ys)))
 rows-past n ys =
     by-bool (eqb (length ys) messageLimit)
     (λ a. by-bool (ltb messageLimit n)
@@ -62,6 +62,9 @@ rows-past n ys =
     (subst (λ (i : ℕ). ZeroPast i (paste blankRows 0 (map rowOf ys) n)) z
     (pasted-blank 0 blankRows (map rowOf ys) n (omega arith) (rw length-map (omega arith)) (blank-past 0)))))
     (λ a. rw a (none-read n (map rowOf ys)))
+
+pub zero-past : (n : ℕ) (ys : List Message) (blank before : List (List ℕ)) → blank ≡ blankRows → before ≡ paste blank 0 (map rowOf ys) (readOf n (length ys)) → ZeroPast n before
+zero-past n ys blank before p q = rw (q, p) (rows-past n ys)
 
 module _ (g : Rig) (ts : List (List (List ℕ))) (ys : List Message) (n : ℕ) (e : Event) (r : Answer) (ts′ : List (List (List ℕ))) (blank before after : List (List ℕ)) where
   abbrev read : ℕ
