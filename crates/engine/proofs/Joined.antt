@@ -1,12 +1,12 @@
 -- What the parts of `event` have done, put together.
 use Prim.Native.Nat.{ℕ, zero, suc, _+_, _-_, _≤_}
 use mathlib.Core.Path.{_≡_, sym, ap, subst, _∙_}
-use mathlib.Core.List.{List, [], _∷_, _++_, map}
+use mathlib.Core.List.{List, _∷_, _++_, map}
 use mathlib.Core.Logic.{_⊎_, inl, inr}
 use native.Mathlib.Omega.{arith}
 use lib.Dec.{eqb, ltb}
 use lib.ListN.{length, take, drop, replicate, length-map, length-replicate}
-use lib.Seq.{paste, paste-zero}
+use lib.Seq.{paste}
 use borrow.Author.Tests.{eqb-true, ltb-true, ltb-false, eq-eqb, le-ltb}
 use Rattle.basics.proofs.Basics.{by-bool}
 use Rattle.rig.specs.declared.Rig.{Rig}
@@ -16,7 +16,7 @@ use Rattle.rig.specs.declared.Answer.{Answer}
 use Rattle.rig.specs.Limits.{messageLimit}
 use Rattle.model.specs.Event as M
 use Rattle.model.specs.State.{tables}
-use Rattle.list_rows.specs.Rows.{rowOf, messageOf, zeroRow, cleared, ZeroPast}
+use Rattle.list_rows.specs.Rows.{rowOf, messageOf, zeroRow, ZeroPast}
 use Rattle.list_exchange.proofs.Zeros.{pasted-blank}
 use Rattle.list_lent.specs.First.{firstIn}
 use Rattle.engine_parts.specs.Parts.{senderOf, receiverOf, readOf, blankRows, judgedRows, changedFrom}
@@ -45,15 +45,12 @@ zeros (suc n) (suc m) = let e : suc m - suc n ≡ m - n = omega arith in rw e (a
 blank-past : (n : ℕ) → ZeroPast n blankRows
 blank-past n = ap (λ (i : ℕ). take n blankRows ++ replicate (i - n) zeroRow) (length-replicate messageLimit zeroRow) ∙ zeros n messageLimit
 
-none-read : (n : ℕ) (ms : List (List ℕ)) → ZeroPast n (paste blankRows 0 ms 0)
-none-read n ms = let e = paste-zero blankRows 0 ms in blank-past n
-
 -- past the count, the rows read from a list are zeros: it is the number of rows read, or no row is read
 rows-past : (n : ℕ) (ys : List Message) → ZeroPast n (paste blankRows 0 (map rowOf ys) (readOf n (length ys)))
 rows-past n ys =
     by-bool (eqb (length ys) messageLimit)
     (λ a. by-bool (ltb messageLimit n)
-    (λ b. rw (a, b) (none-read n (map rowOf ys)))
+    (λ b. rw (a, b) (blank-past n))
     (λ b. let k = ltb-false messageLimit n b in
     let f = eqb-true (length ys) messageLimit a in
     let l = length-replicate messageLimit zeroRow in
@@ -61,7 +58,7 @@ rows-past n ys =
     rw (a, b)
     (subst (λ (i : ℕ). ZeroPast i (paste blankRows 0 (map rowOf ys) n)) z
     (pasted-blank 0 blankRows (map rowOf ys) n (omega arith) (rw length-map (omega arith)) (blank-past 0)))))
-    (λ a. rw a (none-read n (map rowOf ys)))
+    (λ a. rw a (blank-past n))
 
 pub zero-past : (n : ℕ) (ys : List Message) (blank before : List (List ℕ)) → blank ≡ blankRows → before ≡ paste blank 0 (map rowOf ys) (readOf n (length ys)) → ZeroPast n before
 zero-past n ys blank before p q = rw (q, p) (rows-past n ys)

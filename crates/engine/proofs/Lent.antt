@@ -11,12 +11,12 @@ use lib.Seq.{paste, paste-zero, length-take-le, take-all, take-append-le, take-t
 use borrow.Author.Tests.{eqb-true, leb-true, eq-eqb, le-ltb}
 use Rattle.basics.specs.Helpers.{first, withoutFirst}
 use Rattle.basics.proofs.Basics.{by-bool, clash}
+use Rattle.rig.specs.declared.Desk.{Desk}
 use Rattle.rig.specs.declared.Message.{Message}
 use Rattle.rig.specs.declared.Event.{Event}
 use Rattle.rig.specs.declared.Event.the-variants.{Ask, Leave, Deliver}
-use Rattle.rig.specs.declared.Desk.{Desk}
 use Rattle.rig.specs.Limits.{messageLimit}
-use Rattle.model.specs.State.{Tables, isResting, isInside, deskOf, Stored, underWay}
+use Rattle.model.specs.State.{Tables, isResting, isInside, deskOf, Stored}
 use Rattle.model.specs.Shape.{wellShaped}
 use Rattle.model.specs.Deliver.{between}
 use Rattle.model.specs.Event as M
@@ -223,10 +223,6 @@ module _ (t : Tables) (L l : List Message) (n : ℕ) (e : Event) where
   shaped-same : take n l ≡ take n L → wellShaped copy ≡ wellShaped whole
   unfolding wellShaped
   shaped-same u = rw u
-
-  played-same : take n l ≡ take n L → M.played copy e ≡ M.settled copy (M.actor e) (M.eventAt (t .rig .accepted) (deskOf t (M.actor e)) (take n L) e)
-  unfolding M.played
-  played-same u = rw u
 
   module _ (same : length L ≡ messageLimit → n ≤ messageLimit → take n l ≡ take n L) where
     tested-same : length L ≡ messageLimit → rewritten L place t l n (M.tested copy e) ≡ M.tested whole e
