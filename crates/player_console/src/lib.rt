@@ -1,14 +1,14 @@
 // A text of events from a file descriptor, played to its end: the lines that document 01 fixes go to standard output.
 // The buffers are fixed: a line's first bytes wait at the front of the input until the rest of it is read.
-use player_grammar::LINE_LIMIT;
 use libc::STDOUT_FILENO;
 use list_rows::Rows;
+use player_grammar::LINE_LIMIT;
 use player_lines::finish;
 use player_lines::line;
+use player_printing::PAGE_LENGTH;
 use player_text::Player;
 use player_text::Stage;
 use player_text::begin;
-use player_printing::PAGE_LENGTH;
 use rig::Message;
 use rig::Rig;
 use rig::Tables;
@@ -34,7 +34,7 @@ fn is_over(p: Player) -> bool {
     }
 }
 
-// An inner call: where n bytes go behind the first `at` bytes of the output, which is written out first where they do not fit.
+// Where n bytes go behind the first `at` bytes of the output, which is written out first where they do not fit.
 fn place_for(output: &[u8], at: usize, n: usize) -> usize
     requires { ⌜ (at ≤ length (now output)) × (n ≤ length (now output)) ⌝ }
     ensures { λ r. ⌜ r + n ≤ length (now (output .entry)) ⌝ }
@@ -46,7 +46,7 @@ fn place_for(output: &[u8], at: usize, n: usize) -> usize
     0
 }
 
-// An inner call: n bytes of the page go to the output, behind its first `at` bytes.
+// N bytes of the page go to the output, behind its first `at` bytes.
 fn put_out(output: &mut [u8], at: usize, page: &[u8], n: usize) -> usize
     requires { ⌜ (at ≤ length (now output)) × (n ≤ length (now output)) × (n ≤ length (now page)) ⌝ }
     ensures { λ r. ⌜ r ≤ length (now (output .exit)) ⌝ }
@@ -59,7 +59,7 @@ fn put_out(output: &mut [u8], at: usize, page: &[u8], n: usize) -> usize
     to + n
 }
 
-// An inner call: plays the lines that end within the first `filled` bytes, and writes what they print.
+// Plays the lines that end within the first `filled` bytes, and writes what they print.
 fn play_lines(
     p: Player,
     tables: &mut Tables,
@@ -80,13 +80,7 @@ fn play_lines(
         if end >= filled {
             break;
         }
-        let said = line(
-            q,
-            tables,
-            list,
-            &mut page,
-            &input[from..end],
-        );
+        let said = line(q, tables, list, &mut page, &input[from..end]);
         q = said.player;
         at = put_out(output, at, &page, said.printed);
         from = end + 1;
@@ -98,7 +92,7 @@ fn play_lines(
     }
 }
 
-// An inner call: the bytes from `from` to `filled` move to the front; answers how many they are.
+// The bytes from `from` to `filled` move to the front; answers how many they are.
 fn move_up(input: &mut [u8], from: usize, filled: usize) -> usize
     requires { ⌜ (from ≤ filled) × (filled ≤ length (now input)) ⌝ }
     ensures { λ r. ⌜ (r ≤ filled) × (r + from ≡ filled) ⌝ }
@@ -111,7 +105,7 @@ fn move_up(input: &mut [u8], from: usize, filled: usize) -> usize
     n
 }
 
-// An inner call: reads behind the first `filled` bytes; answers how many bytes came, 0 at the end of the input.
+// Reads behind the first `filled` bytes; answers how many bytes came, 0 at the end of the input.
 fn read_more(fd: i32, input: &mut [u8], filled: usize) -> usize
     requires { ⌜ filled ≤ length (now input) ⌝ }
     ensures { λ r. ⌜ filled + r ≤ length (now (input .exit)) ⌝ }
@@ -137,27 +131,14 @@ pub fn play_from(fd: i32) {
             io::write_all(STDOUT_FILENO, &page[..n]);
             return;
         }
-        let rest = play_lines(
-            p,
-            &mut tables,
-            &mut list,
-            &input,
-            filled + got,
-            &mut output,
-        );
+        let rest = play_lines(p, &mut tables, &mut list, &input, filled + got, &mut output);
         p = rest.player;
         filled = move_up(&mut input, rest.from, filled + got);
         if is_over(p) {
             return;
         }
         if filled > LINE_LIMIT {
-            let said = line(
-                p,
-                &mut tables,
-                &mut list,
-                &mut page,
-                &input[..filled],
-            );
+            let said = line(p, &mut tables, &mut list, &mut page, &input[..filled]);
             io::write_all(STDOUT_FILENO, &page[..said.printed]);
             return;
         }

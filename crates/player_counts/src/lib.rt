@@ -1,8 +1,8 @@
 // What a printed line says of a rig's sites: which one is inside, and how many wait.
-use rig_reads::is_inside;
-use rig_reads::is_waiting;
 use rig::Rig;
 use rig::Site;
+use rig_reads::is_inside;
+use rig_reads::is_waiting;
 ghost use mathlib.Core.Path.{_≡_};
 ghost use mathlib.Core.Bool.{cond};
 ghost use Prim.Native.Nat.{suc, min, _<_};
@@ -11,7 +11,7 @@ ghost use Rattle.model.specs.State.{isWaiting};
 ghost use Rattle.model.specs.Run.{waitingCount};
 ghost use Rattle.model.specs.Printed.{insideUpTo};
 
-// How many sites there are to look at: a rig holds no more than 31.
+// How many sites there are to look at: no more than a rig holds.
 fn stored_sites(size: u64) -> usize
     ensures { λ r. ⌜ r ≡ min size siteLimit ⌝ }
 {

@@ -1,14 +1,14 @@
 // One event of the player's text: played, and its line printed.
-use player_counts::inside;
-use player_counts::waiting;
 use event_rows::step;
 use list_rows::Rows;
+use player_counts::inside;
+use player_counts::waiting;
+use player_printing::Page;
+use player_printing::step_line;
 use player_text::Player;
 use player_text::Said;
 use player_text::Stage;
 use player_text::one_more;
-use player_printing::Page;
-use player_printing::step_line;
 use rig::Event;
 use rig::Message;
 use rig::Rig;
@@ -19,7 +19,13 @@ ghost use Rattle.player_text.specs.Player.{onEvent};
 ghost use Rattle.player_text.specs.Calls.{before, HoldsAt, Gives};
 
 // An inner call: one event of the text is played, and its line printed.
-pub fn play_event(p: Player, tables: &mut Tables, list: &mut Rows, page: &mut Page, e: Event) -> Said
+pub fn play_event(
+    p: Player,
+    tables: &mut Tables,
+    list: &mut Rows,
+    page: &mut Page,
+    e: Event,
+) -> Said
     requires { ⌜ HoldsAt Events p (now tables) (now list) ⌝ }
     ensures { λ r. ⌜ Gives (onEvent (before p tables list) (some e)) r tables list page ⌝ }
 {
