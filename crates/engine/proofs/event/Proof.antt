@@ -60,6 +60,7 @@ use Rattle.rig.specs.declared.Answer.{Answer}
 use Rattle.list_search.specs.declared.Found.{Found}
 use Rattle.model.specs.Event as Model
 use Rattle.list_rows.specs.Rows.{rowOf, messageOf, ZeroPast}
+use Rattle.list_rows.specs.State.{stored as in-rows}
 use Rattle.list_lent.specs.First.{firstIn}
 use Rattle.engine_parts.specs.Parts.{senderOf, receiverOf, readOf, blankRows, judgedRows, changedFrom}
 use Rattle.engine.specs.Lent.{stored, answered}
@@ -237,7 +238,7 @@ module _ {M : Type 1} (𝓤 : URA M) (H : Heap 𝓤) (A : Atoms 𝓤) (W : Given
 
   -- what `on_rows` is said to answer
   abbrev Says : Answer → List (List (List ℕ)) → List (List ℕ) → List (List ℕ) → Type 0
-  Says r ts after before = answered r ts (map messageOf after) ≡ judgedRows (length ys) (stored g (t .now) (map messageOf before) n) e
+  Says r ts after before = Model.answer (r .code) (in-rows (r .rig) ts after (r .count)) ≡ judgedRows (length ys) (in-rows g (t .now) before n) e
 
   exits : (r : Answer) (ts : List (List (List ℕ))) (zs : List Message) → length zs ≡ length ys → answered r ts zs ≡ Model.event (stored g (t .now) ys n) e → Is K.the-row r (answer-vals r)
       → ent 𝓤 (⋆ 𝓤 H A (‵ (flft κ₀ q₀) ∷ ‵ (flft κ₁ q₁) ∷ ‵ (fres (t .name) (Tabs .coded .code ts)) ∷ ‵ (finally T.the-row γ zs) ∷ [])) (Post (only (answer-vals r)))
