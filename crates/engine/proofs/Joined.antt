@@ -17,6 +17,7 @@ use Rattle.rig.specs.Limits.{messageLimit}
 use Rattle.model.specs.Event as M
 use Rattle.model.specs.State.{tables}
 use Rattle.list_rows.specs.Rows.{rowOf, messageOf, zeroRow, ZeroPast}
+use Rattle.list_rows.specs.State.{stored as in-rows}
 use Rattle.list_exchange.proofs.Zeros.{pasted-blank}
 use Rattle.list_lent.specs.First.{firstIn}
 use Rattle.engine_parts.specs.Parts.{senderOf, receiverOf, readOf, blankRows, judgedRows, changedFrom}
@@ -71,13 +72,13 @@ module _ (g : Rig) (ts : List (List (List ℕ))) (ys : List Message) (n : ℕ) (
   start code = changedFrom code (firstIn (senderOf e) (receiverOf e) (take read ys)) n (length ys)
 
   module _ (blank-is : blank ≡ blankRows) (before-is : before ≡ paste blank 0 (map rowOf ys) read)
-      (said : answered r ts′ (map messageOf after) ≡ judgedRows (length ys) (stored g ts (map messageOf before) n) e) where
+      (said : M.answer (r .code) (in-rows (r .rig) ts′ after (r .count)) ≡ judgedRows (length ys) (in-rows g ts before n) e) where
     same : length ys ≡ messageLimit → n ≤ messageLimit → take n (map messageOf before) ≡ take n ys
     same f k =
         let all : read ≡ n = rw (eq-eqb (length ys) messageLimit f, le-ltb messageLimit n k) in
         rw (before-is, blank-is, all) (read-rows ys n (omega arith) k)
 
-    code-is : r .code ≡ judgedRows (length ys) (stored g ts (map messageOf before) n) e .code
+    code-is : r .code ≡ judgedRows (length ys) (in-rows g ts before n) e .code
     code-is = ap (λ (a : M.Answer). a .code) said
 
     pub from-in : start (r .code) ≤ length ys

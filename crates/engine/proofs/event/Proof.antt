@@ -60,6 +60,7 @@ use Rattle.rig.specs.declared.Answer.{Answer}
 use Rattle.list_search.specs.declared.Found.{Found}
 use Rattle.model.specs.Event as Model
 use Rattle.list_rows.specs.Rows.{rowOf, messageOf, ZeroPast}
+use Rattle.list_rows.specs.State.{stored as in-rows}
 use Rattle.list_lent.specs.First.{firstIn}
 use Rattle.engine_parts.specs.Parts.{senderOf, receiverOf, readOf, blankRows, judgedRows, changedFrom}
 use Rattle.engine.specs.Lent.{stored, answered}
@@ -237,7 +238,7 @@ module _ {M : Type 1} (𝓤 : URA M) (H : Heap 𝓤) (A : Atoms 𝓤) (W : Given
 
   -- what `on_rows` is said to answer
   abbrev Says : Answer → List (List (List ℕ)) → List (List ℕ) → List (List ℕ) → Type 0
-  Says r ts after before = answered r ts (map messageOf after) ≡ judgedRows (length ys) (stored g (t .now) (map messageOf before) n) e
+  Says r ts after before = Model.answer (r .code) (in-rows (r .rig) ts after (r .count)) ≡ judgedRows (length ys) (in-rows g (t .now) before n) e
 
   exits : (r : Answer) (ts : List (List (List ℕ))) (zs : List Message) → length zs ≡ length ys → answered r ts zs ≡ Model.event (stored g (t .now) ys n) e → Is K.the-row r (answer-vals r)
       → ent 𝓤 (⋆ 𝓤 H A (‵ (flft κ₀ q₀) ∷ ‵ (flft κ₁ q₁) ∷ ‵ (fres (t .name) (Tabs .coded .code ts)) ∷ ‵ (finally T.the-row γ zs) ∷ [])) (Post (only (answer-vals r)))
@@ -319,7 +320,7 @@ module _ {M : Type 1} (𝓤 : URA M) (H : Heap 𝓤) (A : Atoms 𝓤) (W : Given
       qed W (‵ (flft κ₀ q₀) ∷ ‵ (flft (α ∷ []) fullShare) ∷ ‵ (MutRef (named 0) κ₀ Tabs .own t (ptr-val t ∷ [])) ∷ ‵ (MutRef (named 1) (α ∷ []) B .own (rows b ε rs) (vptr b 0 ∷ [])) ∷ []) ∵
       says ! p $ nothing ! $ move ! (2 ∷ 0 ∷ []) $ join ! $ move ! (1 ∷ 0 ∷ []) $ join ! $ frame ! $
       -- [the tables; the rows]
-      nothing ! $ owned ! E.the-row (Is E.the-row) (EL.makes E.the-type E′.the-plain 𝓤 H A) e _ ge $ fjoin ! $ owned ! usize (Is usize) (uint-makes 𝓤 H A W w64) n _ (refl, gn) $ fjoin ! $ owned ! usize (Is usize) (uint-makes 𝓤 H A W w64) (length ys) _ (refl, room .0) $ fjoin ! $
+      nothing ! $ owned ! E.the-row (Is E.the-row) (EL.makes E.the-type E′.the-plain 𝓤 H A) e _ ge $ fjoin ! $ owned ! usize (Is usize) (uint-makes 𝓤 H A W w64) n (vint w64 n ∷ []) (refl, gn) $ fjoin ! $ owned ! usize (Is usize) (uint-makes 𝓤 H A W w64) (length ys) _ (refl, room .0) $ fjoin ! $
       move ! (2 ∷ 0 ∷ []) $ fjoin ! $ move ! (1 ∷ 0 ∷ []) $ fjoin ! $ owned ! G.the-row (Is G.the-row) (LL.makes G.the-type G′.the-plain 𝓤 H A) g _ gg $ fjoin ! $ done !
 
   -- where the list is rewritten from, by the answer r
