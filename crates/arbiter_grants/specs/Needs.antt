@@ -5,7 +5,7 @@ use lib.ListN.{length}
 use Rattle.rig.specs.declared.Desk.{Desk}
 use Rattle.rig.specs.Limits.{siteLimit}
 
--- at most 31 sites, g grant numbers more fit the number's type, and the list has room for m messages behind the first n
+-- no more sites than the limit, g grant numbers more fit the number's type, and the list has room for m messages behind the first n
 pub record Room (d : Desk) (g m n : ℕ) (rows : List (List ℕ)) : Type 0 where
   pub size : d .size ≤ siteLimit
   pub grants : d .arbiter .grant + g < 2 ^ 64

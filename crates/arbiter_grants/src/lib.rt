@@ -1,11 +1,11 @@
 // What an arbiter sends its holder, and how it grants. The desk is that of the arbiter's own site, and messages go to `out`, behind the
 // first `count` rows.
-use event_effects::Acted;
-use list_rows::Row;
-use list_rows::append;
 use arbiter_queue::head;
 use arbiter_queue::queued_at;
 use arbiter_queue::requeued;
+use event_effects::Acted;
+use list_rows::Row;
+use list_rows::append;
 use rig::Arbiter;
 use rig::Desk;
 use rig::Message;

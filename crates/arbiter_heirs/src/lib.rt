@@ -3,13 +3,13 @@
 use arbiter_grants::held_by;
 use arbiter_grants::inquire_of;
 use arbiter_grants::transfer_of;
-use event_effects::Acted;
-use list_rows::Row;
-use list_rows::append;
 use arbiter_queue::before_holder;
 use arbiter_queue::head;
 use arbiter_queue::queued_at;
 use arbiter_queue::requeued;
+use event_effects::Acted;
+use list_rows::Row;
+use list_rows::append;
 use rig::Desk;
 ghost use Rattle.rig.specs.Limits.{SiteNumber};
 ghost use Rattle.model.specs.Arbiter.{headNamed, heirTakesOver};

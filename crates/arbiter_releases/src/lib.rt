@@ -3,10 +3,10 @@
 use arbiter_grants::grant_head;
 use arbiter_grants::held_by;
 use arbiter_heirs::heir_takes_over;
-use event_effects::Acted;
-use list_rows::Row;
 use arbiter_queue::queued_at;
 use arbiter_queue::requeued;
+use event_effects::Acted;
+use list_rows::Row;
 use rig::Desk;
 ghost use mathlib.Core.Path.{_≡_};
 ghost use Prim.Native.Nat.{_+_, _^_, _≤_, _<_};

@@ -11,18 +11,19 @@ use lib.Seq.{paste, paste-zero, length-take-le, take-all, take-append-le, take-t
 use borrow.Author.Tests.{eqb-true, leb-true, eq-eqb, le-ltb}
 use Rattle.basics.specs.Helpers.{first, withoutFirst}
 use Rattle.basics.proofs.Basics.{by-bool, clash}
+use Rattle.rig.specs.declared.Desk.{Desk}
 use Rattle.rig.specs.declared.Message.{Message}
 use Rattle.rig.specs.declared.Event.{Event}
 use Rattle.rig.specs.declared.Event.the-variants.{Ask, Leave, Deliver}
 use Rattle.rig.specs.Limits.{messageLimit}
-use Rattle.model.specs.State.{Tables, modeOf, isResting, isInside}
+use Rattle.model.specs.State.{Tables, isResting, isInside, deskOf, Stored}
 use Rattle.model.specs.Shape.{wellShaped}
 use Rattle.model.specs.Deliver.{between}
 use Rattle.model.specs.Event as M
 use Rattle.model.proofs.Reached.{room}
-use Rattle.list_rows.specs.declared.Found.{Found}
-use Rattle.list_rows.specs.declared.Found.the-variants.{At, Nowhere}
-use Rattle.list_rows.specs.Places.{placeFrom}
+use Rattle.list_search.specs.declared.Found.{Found}
+use Rattle.list_search.specs.declared.Found.the-variants.{At, Nowhere}
+use Rattle.list_search.specs.Places.{placeFrom}
 use Rattle.list_rows.specs.Rows.{rowOf, messageOf}
 use Rattle.list_lent.specs.First.{firstIn}
 use Rattle.engine_parts.specs.Parts.{senderOf, receiverOf, readOf, blankRows, judgedRows, placeOf, changedFrom}
@@ -85,21 +86,42 @@ padded-long : (ms : List Message) → length ms ≤ messageLimit → length (M.p
 unfolding M.padded
 padded-long ms h = simp (length-append, length-replicate) (omega arith)
 
-padded-take : (place : ℕ) (rest sent : List Message) → place ≤ length rest → take place (M.padded (rest ++ sent)) ≡ take place rest
+padded-take : (place : ℕ) (ms : List Message) → place ≤ length ms → take place (M.padded ms) ≡ take place ms
 unfolding M.padded
-padded-take place rest sent h =
-    let a : place ≤ length (rest ++ sent) = rw length-append (omega arith) in
-    rw (take-append-le place (rest ++ sent) _ a, take-append-le place rest sent h)
+padded-take place ms h = take-append-le place ms _ h
 
 module _ (L : List Message) (place : ℕ) where
+  -- a list that begins as L does, up to the place
+  abbrev Begins : List Message → Type 0
+  Begins ms = (place ≤ length ms) × (take place ms ≡ take place L)
+
+  begins-on : (rest sent : List Message) → Begins rest → Begins (rest ++ sent)
+  begins-on rest sent b = (rw length-append (omega (arith, b .0)), take-append-le place rest sent (b .0) ∙ b .1)
+
   -- an attempt is refused with a code that is not 0, or leaves the list as it is up to the place
   abbrev Leaves : M.Attempt → Type 0
   Leaves (M.refused c) = eqb c 0 ≡ false
-  Leaves (M.possible e rest) = (place ≤ length rest) × (take place rest ≡ take place L)
+  Leaves (M.possible e rest) = Begins rest
 
   one-leaves : (b : Bool) (x y : M.Attempt) → Leaves x → Leaves y → Leaves (cond b x y)
   one-leaves true x y f g = f
   one-leaves false x y f g = g
+
+  -- so does an outcome with code 0, and its messages are not too many
+  abbrev Fits : M.Outcome → Type 0
+  Fits o = eqb (o .code) 0 ≡ true → (length (o .messages) ≤ messageLimit) × Begins (o .messages)
+
+  judged-fits : (n : ℕ) (d : Desk) (ms : List Message) (a : M.Attempt) → Leaves a → Fits (M.judged n d ms a)
+  unfolding M.judged
+  judged-fits n d ms (M.refused c) s = λ z. clash (eqb c 0) z s
+  judged-fits n d ms (M.possible e rest) s =
+      by-bool (eqb (M.effectCode n e rest) 0)
+      (λ h. rw h (λ z. (rw length-append (room _ _ _ (e .sent) (length rest) (eqb-true _ 0 h) .0), begins-on rest (e .sent) s)))
+      (λ h. rw h (λ z. clash (eqb (M.effectCode n e rest) 0) z h))
+
+  event-fits : (n : ℕ) (d : Desk) (ms : List Message) (e : Event) → Leaves (M.attempt d ms e) → Fits (M.eventAt n d ms e)
+  unfolding M.eventAt
+  event-fits n d ms e s = by-bool (M.sitesNamed (d .size) e) (λ h. rw h (judged-fits n d ms _ s)) (λ h. rw h (λ z. clash false z refl))
 
   module _ (t : Tables) (l : List Message) (n : ℕ) where
     -- the answer on another list, with L rewritten from the list that it leaves
@@ -108,65 +130,63 @@ module _ (L : List Message) (place : ℕ) where
         let from = cond (not (eqb (a .code) 0)) (length L) place in
         relisted (paste L from (drop from (a .next .list)) (length L - from)) a
 
-    abbrev stored : List Message → M.Stored
+    abbrev stored : List Message → Stored
     stored ms = record { tables = t; list = ms; count = n }
 
     turned-down : (c : ℕ) → eqb c 0 ≡ false → rewritten (M.answer c (stored l)) ≡ M.answer c (stored L)
     turned-down c h = rw h (ap (λ (ms : List Message). M.answer c (stored ms)) (kept L (drop (length L) l)))
 
-    -- an attempt is judged alike, and the list that it leaves is L rewritten
-    judged-same : length L ≡ messageLimit → place ≤ length L → (k : ℕ) (a : M.Attempt) → Leaves a
-        → rewritten (M.judged (stored l) k a) ≡ M.judged (stored L) k a
-    unfolding M.judged M.settled M.accepted
-    judged-same full fits k (M.refused c) s = turned-down c s
-    judged-same full fits k (M.possible e rest) s =
-        by-bool (eqb (M.limitCode t e rest) 0)
-        (λ h. let r = room t e rest (eqb-true _ 0 h) in
-        let long : length (M.padded (rest ++ e .sent)) ≡ length L = padded-long (rest ++ e .sent) (rw length-append (r .0)) ∙ sym full in
-        let next = M.answer (M.limitCode t e rest) (M.accepted t k e rest) in
+    -- an outcome is settled alike, and the list that it leaves is L rewritten
+    settled-same : length L ≡ messageLimit → place ≤ length L → (k : ℕ) (o : M.Outcome) → Fits o → rewritten (M.settled (stored l) k o) ≡ M.settled (stored L) k o
+    unfolding M.settled M.accepted
+    settled-same full low k o s =
+        by-bool (eqb (o .code) 0)
+        (λ h. let b = s h in
+        let long : length (M.padded (o .messages)) ≡ length L = padded-long (o .messages) (b .0) ∙ sym full in
+        let next = M.answer (o .code) (M.accepted t k (o .desk) (o .messages)) in
         rw h
-        (ap (λ (ms : List Message). relisted ms next) (rejoined L (M.padded (rest ++ e .sent)) place fits long (padded-take place rest (e .sent) (s .0) ∙ s .1))))
-        (λ h. rw h (ap (λ (ms : List Message). M.answer (M.limitCode t e rest) (stored ms)) (kept L (drop (length L) l))))
+        (ap (λ (ms : List Message). relisted ms next) (rejoined L (M.padded (o .messages)) place low long (padded-take place (o .messages) (b .1 .0) ∙ b .1 .1))))
+        (λ h. rw h (ap (λ (ms : List Message). M.answer (o .code) (stored ms)) (kept L (drop (length L) l))))
 
 -- the place from which an event changes the list is one of the first n, or n
 place-within : (test : Message → Bool) (xs : List Message) (n m : ℕ) → m ≤ n → (f : Found) → placeFrom 0 test (take m xs) ≡ f → placeOf n f ≤ n
 place-within test xs n m h (At i) e = let a = found-agrees test (take m xs) i e .0 in let b = length-take m xs in omega arith
 place-within test xs n m h Nowhere e = omega arith
 
-module _ (t : Tables) (L : List Message) (n : ℕ) (fits : n ≤ length L) where
+module _ (d : Desk) (L : List Message) (n : ℕ) (fits : n ≤ length L) where
   -- an ask or a leave: all messages stay
-  all-stay : (place : ℕ) → place ≤ n → (place ≤ length (take n L)) × (take place (take n L) ≡ take place L)
+  all-stay : (place : ℕ) → place ≤ n → Begins L place (take n L)
   all-stay place h = (rw (length-take-le n L fits) h, take-take place n L h)
 
   -- a delivery: its message stands at the place, and the messages before it stay
-  taken-leaves : (b : ℕ) (test : Message → Bool) (f : Found) → placeFrom 0 test (take n L) ≡ f → (o : Option Message) → first test (take n L) ≡ o
-      → Leaves L (placeOf n f) (M.takenOff t b o (withoutFirst test (take n L)))
+  taken-leaves : (test : Message → Bool) (f : Found) → placeFrom 0 test (take n L) ≡ f → (o : Option Message) → first test (take n L) ≡ o
+      → Leaves L (placeOf n f) (M.takenOff d o (withoutFirst test (take n L)))
   unfolding M.takenOff
-  taken-leaves b test f p none q = refl
-  taken-leaves b test (At i) p (some m) q =
+  taken-leaves test f p none q = refl
+  taken-leaves test (At i) p (some m) q =
       let g = found-agrees test (take n L) i p in
       let w = length-take-le n L fits in
       (g .1, g .2 ∙ take-take i n L (omega arith))
-  taken-leaves b test Nowhere p (some m) q = let w = none-found test 0 (take n L) p in let z : _≡_ {A = ℕ} 0 1 = cc in absurd (omega arith)
+  taken-leaves test Nowhere p (some m) q = let w = none-found test 0 (take n L) p in let z : _≡_ {A = ℕ} 0 1 = cc in absurd (omega arith)
 
-  attempt-leaves : (e : Event) → Leaves L (placeOf n (firstIn (senderOf e) (receiverOf e) (take n L))) (M.attempt t (take n L) e)
+  attempt-leaves : (e : Event) → Leaves L (placeOf n (firstIn (senderOf e) (receiverOf e) (take n L))) (M.attempt d (take n L) e)
   unfolding M.attempt
-  attempt-leaves (Ask s) = one-leaves L _ (isResting (modeOf t s)) _ _ (all-stay _ (place-within (between 0 0) L n n (omega arith) _ refl)) refl
-  attempt-leaves (Leave s) = one-leaves L _ (isInside (modeOf t s)) _ _ (all-stay _ (place-within (between 0 0) L n n (omega arith) _ refl)) refl
-  attempt-leaves (Deliver a b) = taken-leaves b (between a b) (firstIn a b (take n L)) refl (first (between a b) (take n L)) refl
+  attempt-leaves (Ask s) = one-leaves L _ (isResting (d .site .mode)) _ _ (all-stay _ (place-within (between 0 0) L n n (omega arith) _ refl)) refl
+  attempt-leaves (Leave s) = one-leaves L _ (isInside (d .site .mode)) _ _ (all-stay _ (place-within (between 0 0) L n n (omega arith) _ refl)) refl
+  attempt-leaves (Deliver a b) = taken-leaves (between a b) (firstIn a b (take n L)) refl (first (between a b) (take n L)) refl
 
 module _ (t : Tables) (L l : List Message) (n : ℕ) (e : Event) where
-  abbrev whole : M.Stored
+  abbrev whole : Stored
   whole = record { tables = t; list = L; count = n }
 
-  abbrev copy : M.Stored
+  abbrev copy : Stored
   copy = record { tables = t; list = l; count = n }
 
-  abbrev answered : M.Answer
-  answered = judgedRows (length L) copy e
+  abbrev told : M.Answer
+  told = judgedRows (length L) copy e
 
   abbrev from : ℕ
-  from = changedFrom (answered .code) (firstIn (senderOf e) (receiverOf e) (take (readOf n (length L)) L)) n (length L)
+  from = changedFrom (told .code) (firstIn (senderOf e) (receiverOf e) (take (readOf n (length L)) L)) n (length L)
 
   abbrev place : ℕ
   place = placeOf n (firstIn (senderOf e) (receiverOf e) (take (readOf n (length L)) L))
@@ -183,51 +203,52 @@ module _ (t : Tables) (L l : List Message) (n : ℕ) (e : Event) where
   place-low : place ≤ n
   place-low = place-within (between (senderOf e) (receiverOf e)) L n (readOf n (length L)) few-read _ refl
 
-  place-leaves : length L ≡ messageLimit → n ≤ messageLimit → Leaves L place (M.attempt t (take n L) e)
-  place-leaves f k = rw (all-read f k) (attempt-leaves t L n (omega arith) e)
+  place-leaves : (d : Desk) → length L ≡ messageLimit → n ≤ messageLimit → Leaves L place (M.attempt d (take n L) e)
+  place-leaves d f k = rw (all-read f k) (attempt-leaves d L n (omega arith) e)
 
-  -- 13 for both lists
-  wrong-length : eqb (length L) messageLimit ≡ false → (answered ≡ M.answer 13 copy) × (M.event whole e ≡ M.answer 13 whole)
+  -- 13 for both lists, and else what the tests say
+  wrong-length : eqb (length L) messageLimit ≡ false → (told ≡ M.answer 13 copy) × (M.event whole e ≡ M.answer 13 whole)
   unfolding judgedRows M.event
   wrong-length a = (rw a, rw a)
 
-  right-length : eqb (length L) messageLimit ≡ true → answered ≡ M.event copy e
-  unfolding judgedRows
-  right-length a = rw a
+  right-length : eqb (length L) messageLimit ≡ true → (told ≡ M.tested copy e) × (M.event whole e ≡ M.tested whole e)
+  unfolding judgedRows M.event
+  right-length a = (rw a, rw a)
 
   -- 10, where the count is too large
-  too-many : (s : M.Stored) → length (s .list) ≡ messageLimit → leb (s .count) messageLimit ≡ false → M.event s e ≡ M.answer 10 s
-  unfolding M.event
-  too-many s f a = rw (eq-eqb (length (s .list)) messageLimit f, a)
+  too-many : (s : Stored) → leb (s .count) messageLimit ≡ false → M.tested s e ≡ M.answer 10 s
+  unfolding M.tested wellShaped
+  too-many s a = rw a
 
-  module _ (long : length l ≡ messageLimit) (same : length L ≡ messageLimit → n ≤ messageLimit → take n l ≡ take n L) where
-    event-same : length L ≡ messageLimit → (p : ℕ) → (n ≤ messageLimit → (p ≤ n) × Leaves L p (M.attempt t (take n L) e))
-        → rewritten L p t l n (M.event copy e) ≡ M.event whole e
-    unfolding M.event
-    event-same full p ok =
-        let x = eq-eqb (length l) messageLimit long in
-        let y = eq-eqb (length L) messageLimit full in
+  shaped-same : take n l ≡ take n L → wellShaped copy ≡ wellShaped whole
+  unfolding wellShaped
+  shaped-same u = rw u
+
+  module _ (same : length L ≡ messageLimit → n ≤ messageLimit → take n l ≡ take n L) where
+    tested-same : length L ≡ messageLimit → rewritten L place t l n (M.tested copy e) ≡ M.tested whole e
+    unfolding M.tested M.played
+    tested-same full =
         by-bool (leb n messageLimit)
         (λ a. let k = leb-true n messageLimit a in
+        let low = place-low in
         let u = same full k in
-        by-bool (wellShaped t (take n L))
-        (λ b. by-bool (M.sitesNamed t e)
-        (λ c. rw (x, y, a, u, b, c) (judged-same L p t l n full (omega (arith, ok k .0)) (M.actor e) (M.attempt t (take n L) e) (ok k .1)))
-        (λ c. rw (x, y, a, u, b, c) (turned-down L p t l n 4 refl)))
-        (λ b. rw (x, y, a, u, b) (turned-down L p t l n 10 refl)))
-        (λ a. rw (x, y, a) (turned-down L p t l n 10 refl))
+        by-bool (wellShaped whole)
+        (λ b. rw (shaped-same u, b, u)
+        (settled-same L place t l n full (omega arith) (M.actor e) _ (event-fits L place (t .rig .accepted) (deskOf t (M.actor e)) (take n L) e (place-leaves _ full k))))
+        (λ b. rw (shaped-same u, b) (turned-down L place t l n 10 refl)))
+        (λ a. rw (too-many copy a, too-many whole a) (turned-down L place t l n 10 refl))
 
     -- an event is accepted only where the count is at most 1,024
-    accepted-few : eqb (length L) messageLimit ≡ true → eqb (answered .code) 0 ≡ true → n ≤ messageLimit
+    accepted-few : eqb (length L) messageLimit ≡ true → eqb (told .code) 0 ≡ true → n ≤ messageLimit
     accepted-few f h =
         by-bool (leb n messageLimit)
         (λ a. leb-true n messageLimit a)
-        (λ a. let z : eqb 10 0 ≡ true = rw (right-length f, too-many copy long a) at h in clash false z refl)
+        (λ a. let z : eqb 10 0 ≡ true = rw (right-length f .0, too-many copy a) at h in clash false z refl)
 
     pub from-fits : from ≤ length L
     from-fits =
         by-bool (eqb (length L) messageLimit)
-        (λ f. by-bool (eqb (answered .code) 0)
+        (λ f. by-bool (eqb (told .code) 0)
         (λ h. let k = accepted-few f h in
         let full = eqb-true (length L) messageLimit f in
         let low = place-low in
@@ -242,8 +263,8 @@ module _ (t : Tables) (L l : List Message) (n : ℕ) (e : Event) where
         (λ f. eqb-true (length L) messageLimit f)
         (λ f. let z : length L < length L = rw (wrong-length f .0) at h in absurd (omega arith))
 
-    pub composed : relisted (paste L from (drop from (answered .next .list)) (length L - from)) answered ≡ M.event whole e
+    pub composed : relisted (paste L from (drop from (told .next .list)) (length L - from)) told ≡ M.event whole e
     composed =
         by-bool (eqb (length L) messageLimit)
-        (λ f. let full = eqb-true (length L) messageLimit f in rw (right-length f) (event-same full place (λ k. (place-low, place-leaves full k))))
+        (λ f. let r = right-length f in rw (r .0, r .1) (tested-same (eqb-true (length L) messageLimit f)))
         (λ f. let w = wrong-length f in rw (w .0, w .1) (turned-down L place t l n 13 refl))

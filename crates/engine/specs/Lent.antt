@@ -1,16 +1,25 @@
--- A state whose list is a slice of messages, and the answer of a call.
+-- A state and an answer as the engine's caller has them, with the list as a slice of messages.
 use Prim.Native.Nat.{ℕ}
 use mathlib.Core.List.{List}
+use denote.Ref.{now}
 use Rattle.rig.specs.declared.Rig.{Rig}
+use Rattle.rig.specs.declared.Answer as R
 use Rattle.rig.specs.declared.Message.{Message}
-use Rattle.model.specs.Event as M
-use Rattle.model.specs.State.{tables}
-use Rattle.event_storing.specs.declared.Answer.{Answer}
+use Rattle.model.specs.State.{tables, Stored}
+use Rattle.model.specs.Event.{Answer}
+use Rattle.list_rows.specs.State.{Lent}
 
--- the state of model/specs/Event: a rig with its four tables, the lent list, and how many of its messages are under way
-abbrev pub lent : Rig → List (List ℕ) → List (List ℕ) → List (List ℕ) → List (List ℕ) → List Message → ℕ → M.Stored
-lent g held heir inquired queued list n = record { tables = tables g held heir inquired queued; list = list; count = n }
+-- a rig, its tables, the list, and how many of its messages are under way
+abbrev pub stored : Rig → List (List (List ℕ)) → List Message → ℕ → Stored
+stored g ts list n = record { tables = tables g ts; list = list; count = n }
 
 -- what a call answered, with the tables and the list that it left
-abbrev pub lentAnswer : Answer → List (List ℕ) → List (List ℕ) → List (List ℕ) → List (List ℕ) → List Message → M.Answer
-lentAnswer r held heir inquired queued list = record { code = r .code; next = lent (r .rig) held heir inquired queued list (r .count) }
+abbrev pub answered : R.Answer → List (List (List ℕ)) → List Message → Answer
+answered r ts list = record { code = r .code; next = stored (r .rig) ts list (r .count) }
+
+-- the state before a call, and its answer with the state after it
+abbrev pub before : Rig → Lent (List (List (List ℕ))) → Lent (List Message) → ℕ → Stored
+before g ts list n = stored g (now (ts .entry)) (now (list .entry)) n
+
+abbrev pub after : R.Answer → Lent (List (List (List ℕ))) → Lent (List Message) → Answer
+after r ts list = answered r (now (ts .exit)) (now (list .exit))

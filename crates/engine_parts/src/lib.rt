@@ -54,7 +54,14 @@ pub fn blank_rows() -> Rows
 }
 
 // An inner call: one event on rows, where the list that they were read from has that length.
-pub fn on_rows(rig: Rig, tables: &mut Tables, rows: &mut Rows, len: usize, count: usize, e: Event) -> Answer
+pub fn on_rows(
+    rig: Rig,
+    tables: &mut Tables,
+    rows: &mut Rows,
+    len: usize,
+    count: usize,
+    e: Event,
+) -> Answer
     requires { ⌜ ZeroPast count (now rows) ⌝ }
     ensures { λ r. ⌜ after r tables rows ≡ judgedRows len (before rig tables rows count) e ⌝ }
 {

@@ -41,5 +41,16 @@ pub fn deliver(
     let d = desk(size, b, set, site, arbiter, tables);
     let m = message(list[place]);
     let done = event_delivery::deliver(d, m, out, 0);
-    conclude(accepted, b, site, arbiter, tables, list, count, place, done, out)
+    conclude(
+        accepted,
+        b,
+        site,
+        arbiter,
+        tables,
+        list,
+        count,
+        place,
+        done,
+        out,
+    )
 }

@@ -8,7 +8,8 @@ use Rattle.rig.specs.declared.Message.{Message}
 use Rattle.rig.specs.Limits.{siteLimit, numberLimit, SiteNumber}
 use Rattle.rig.specs.Messages.{REPLY}
 
--- at most 31 sites, a grant number in its range, a message between sites, and room for 31 messages behind the first n
+-- no more sites than the limit, a grant number in its range, a message between sites, and room for a message to each site behind the
+-- first n
 pub record Fits (d : Desk) (m : Message) (n : ℕ) (rows : List (List ℕ)) : Type 0 where
   pub size : d .size ≤ siteLimit
   pub grant : d .arbiter .grant ≤ numberLimit

@@ -74,5 +74,16 @@ pub fn turn(
         return Done::refused(code, site, arbiter, count);
     }
     let a = turn_rule(asks, desk(size, s, set, site, arbiter, tables), out);
-    conclude(accepted, s, site, arbiter, tables, list, count, count, a, out)
+    conclude(
+        accepted,
+        s,
+        site,
+        arbiter,
+        tables,
+        list,
+        count,
+        count,
+        a,
+        out,
+    )
 }

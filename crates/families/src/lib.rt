@@ -25,7 +25,7 @@ pub struct Made {
     pub size: u64,
 }
 
-// Writes the sets of the family's sites into a buffer of 31 entries.
+// Writes the sets of the family's sites into a buffer with an entry for each site.
 pub fn generate(family: Family, sets: &mut [u64]) -> Made
     ensures determined { λ r. ⌜ (r ≡ made family (length (now (sets .entry)))) × (now (sets .exit) ≡ filled family (now (sets .entry))) ⌝ }
     ensures accepted { λ r. ⌜ (r .code ≡ 0 → setupCode (r .size) (now (sets .exit)) ≡ 0) ⌝ }

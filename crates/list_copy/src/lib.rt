@@ -1,8 +1,8 @@
 // The list of messages copied into rows of plain numbers, and rewritten from them.
+use list_lent::append;
 use list_rows::Row;
 use list_rows::message;
 use list_rows::row;
-use list_lent::append;
 use rig::Message;
 ghost use mathlib.Core.Path.{_≡_};
 ghost use mathlib.Core.Logic.{_⊎_};
@@ -13,7 +13,7 @@ ghost use lib.Seq.{paste};
 ghost use Rattle.list_rows.specs.Rows.{rowOf, messageOf};
 ghost use Rattle.list_rows.specs.Rows.{zeroRow};
 
-// An inner call: row i becomes a message's.
+// Row i becomes a message's.
 fn put_row(rows: &mut [Row], i: usize, m: Message)
     requires { ⌜ i < length (now rows) ⌝ }
     ensures { λ _. ⌜ now (rows .exit) ≡ set (now (rows .entry)) i (rowOf m) ⌝ }
@@ -21,7 +21,7 @@ fn put_row(rows: &mut [Row], i: usize, m: Message)
     rows[i] = row(m);
 }
 
-// An inner call: the message of row i.
+// The message of row i.
 fn row_message(rows: &[Row], i: usize) -> Message
     requires { ⌜ i < length (now rows) ⌝ }
     ensures { λ r. ⌜ r ≡ messageOf (getD (now (rows .entry)) i zeroRow) ⌝ }

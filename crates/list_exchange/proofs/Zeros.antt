@@ -4,7 +4,7 @@ use mathlib.Core.Path.{_≡_, sym, ap, _∙_}
 use mathlib.Core.List.{List, _∷_, _++_, append-nil}
 use native.Mathlib.Omega.{arith}
 use lib.ListN.{length, take, drop, replicate, length-take, length-drop, length-append, take-append-drop, drop-of-length-le, length-replicate, replicate-append-replicate}
-use lib.Seq.{length-take-le, take-all, take-at, drop-at, drop-drop, paste, length-paste, drop-paste}
+use lib.Seq.{length-take-le, take-all, take-at, drop-at, drop-drop, paste, length-paste, take-paste, drop-paste}
 use Rattle.list_rows.specs.Rows.{zeroRow, cleared, without}
 use Rattle.list_exchange.specs.Exchange.{takenOut, Exchanged}
 
@@ -69,23 +69,23 @@ taken-out-long n place rows g h = simp (length-append, length-take, length-drop)
 -- What `exchange` does in its two cases.
 module _ (n place m : ℕ) (rows sent : List (List ℕ)) (fits : m ≤ length sent) (high : n ≤ length rows) {r : ℕ} {after : List (List ℕ)} where
   pub exchanged-off : (rest : ℕ) {mid : List (List ℕ)} → place < n → length (without place (take n rows)) + m ≤ length rows → (rest + 1 ≡ n) × (mid ≡ takenOut n place rows)
-      → (r ≡ rest + m) × (after ≡ paste mid rest sent m) × (take r after ≡ take rest mid ++ take m sent) → Exchanged n place rows sent m r after
+      → (r ≡ rest + m) × (after ≡ paste mid rest sent m) → Exchanged n place rows sent m r after
   exchanged-off rest {mid} g room t u =
       let w = without-short n place rows g high in
       let e : rest ≡ n - 1 = omega arith in
       let long = taken-out-long n place rows g high in
       record {
         count = omega (arith, u .0);
-        list = u .2 ∙ rw (e, t .1, taken-out-rest n place rows g high);
+        list = rw (u .0, u .1, e, t .1) (take-paste (takenOut n place rows) (n - 1) sent m (omega arith) fits ∙ rw (taken-out-rest n place rows g high));
         zeros = λ b. rw (u .0, u .1, e, t .1) (pasted-blank (n - 1) (takenOut n place rows) sent m (omega arith) fits (taken-out-blank n place rows g high b));
       }
 
   pub exchanged-on : place ≡ n → length (without place (take n rows)) + m ≤ length rows
-      → (r ≡ n + m) × (after ≡ paste rows n sent m) × (take r after ≡ take n rows ++ take m sent) → Exchanged n place rows sent m r after
+      → (r ≡ n + m) × (after ≡ paste rows n sent m) → Exchanged n place rows sent m r after
   exchanged-on e room u =
       let k = without-all n place rows e high in
       record {
         count = omega (arith, u .0);
-        list = u .2 ∙ rw (e, without-none n rows);
+        list = rw (u .0, u .1) (take-paste rows n sent m (omega arith) fits ∙ rw (e, without-none n rows));
         zeros = λ b. rw (u .0, u .1) (pasted-blank n rows sent m (omega arith) fits b);
       }

@@ -36,7 +36,7 @@ fn take_off(list: &mut [Row], count: usize, place: usize) -> usize
 // The first m rows of `sent` are put behind the first `count`.
 fn append_all(list: &mut [Row], count: usize, sent: &[Row], m: usize) -> usize
     requires { ⌜ (count + m ≤ length (now list)) × (m ≤ length (now sent)) ⌝ }
-    ensures { λ r. ⌜ (r ≡ count + m) × (now (list .exit) ≡ paste (now (list .entry)) count (now (sent .entry)) m) × (take r (now (list .exit)) ≡ take count (now (list .entry)) ++ take m (now (sent .entry))) ⌝ }
+    ensures { λ r. ⌜ (r ≡ count + m) × (now (list .exit) ≡ paste (now (list .entry)) count (now (sent .entry)) m) ⌝ }
 {
     for i in 0..m {
         let s = sent[i];

@@ -1,5 +1,5 @@
 -- A search through the first n entries of a list, which a loop passes one after another.
-use Prim.Native.Nat.{ℕ, suc, _+_, _≤_, _<_}
+use Prim.Native.Nat.{ℕ, suc, _+_, _≤_, _<_, min}
 use mathlib.Core.Path.{_≡_, refl, sym, ap, _∙_}
 use mathlib.Core.Bool.{Bool, true, false, cond}
 use mathlib.Core.List.{List, _∷_}
@@ -9,27 +9,21 @@ use borrow.Author.Tests.{ltb-true, ltb-false}
 use lib.Dec.{ltb}
 use lib.ListN.{length, getD, take, drop}
 use lib.Seq.{drop-cons, drop-length, getD-take, length-take-le, take-all}
+use Rattle.basics.proofs.Basics.{by-bool}
 use Rattle.list_search.specs.declared.Found.{Found}
 use Rattle.list_search.specs.declared.Found.the-variants.{At, Nowhere}
 use Rattle.list_search.specs.Places.{placeFrom}
-use Rattle.list_lent.specs.First.{smaller}
 
 -- the smaller of a count and a length is a place in the list, or its end
-bounded : (t : Bool) (m n : ℕ) → (t ≡ true → m < n) → cond t m n ≤ n
-bounded true m n h = let l : m < n = h refl in omega arith
-bounded false m n h = omega arith
-
-pub smaller-le : (m n : ℕ) → smaller m n ≤ n
-smaller-le m n = bounded (ltb m n) m n (ltb-true m n)
+pub smaller-le : (m n : ℕ) → min m n ≤ n
+smaller-le m n = omega arith
 
 module _ {A : Type 0} where
   -- and up to it the list has what it has up to the count
-  upto : (t : Bool) (m : ℕ) (l : List A) → (t ≡ false → length l ≤ m) → take (cond t m (length l)) l ≡ take m l
-  upto true m l h = refl
-  upto false m l h = take-all (length l) l (omega arith) ∙ sym (take-all m l (h refl))
-
-  pub take-smaller : (m : ℕ) (l : List A) → take (smaller m (length l)) l ≡ take m l
-  take-smaller m l = upto (ltb m (length l)) m l (ltb-false m (length l))
+  pub take-smaller : (m : ℕ) (l : List A) → take (min m (length l)) l ≡ take m l
+  take-smaller m l = by-bool (ltb m (length l))
+      (λ t. let h = ltb-true m (length l) t in let e : min m (length l) ≡ m = omega arith in rw e)
+      (λ t. let h = ltb-false m (length l) t in let e : min m (length l) ≡ length l = omega arith in rw e (take-all (length l) l (omega arith) ∙ sym (take-all m l h)))
 
   module _ (test : A → Bool) (d : A) (n : ℕ) (l : List A) (le : n ≤ length l) where
     -- what is found from place i on

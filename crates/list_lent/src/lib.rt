@@ -3,13 +3,13 @@ use list_search::Found;
 use list_search::is_between;
 use rig::Message;
 ghost use mathlib.Core.Path.{_≡_};
-ghost use Prim.Native.Nat.{_<_, _+_};
+ghost use Prim.Native.Nat.{_<_, _+_, min};
 ghost use lib.ListN.{length, take, set};
-ghost use Rattle.list_lent.specs.First.{firstIn, smaller};
+ghost use Rattle.list_lent.specs.First.{firstIn};
 
 // How many entries of a list of that length are under way: all of them where the count passes the length.
 fn used(count: usize, len: usize) -> usize
-    ensures { λ r. ⌜ r ≡ smaller count len ⌝ }
+    ensures { λ r. ⌜ r ≡ min count len ⌝ }
 {
     if count < len { count } else { len }
 }

@@ -173,11 +173,11 @@ module _ (n : ℕ) (l : List ℕ) (a : Accepted n l) (past : (k : ℕ) → n < k
   unfolding stuck insideCount waitingCount
   not-stuck = by-bool (stuck s)
       (λ e. let p = and-split (eqb (s .count) 0) _ e in
-      let q = and-split (eqb (insideCount (s .tables)) 0) (not (eqb (waitingCount (s .tables)) 0)) (p .1) in
+      let q = and-split (eqb (insideCount (s .tables .rig)) 0) (not (eqb (waitingCount (s .tables .rig)) 0)) (p .1) in
       let c = eqb-true (s .count) 0 (p .0) in
       let idle : (R.Rig.underWay (rigOf (s .tables) (underWay s))) ≡ [] = rw c in
       let calm = machine-sound .notStuck idle (nobody (λ k b d. none-pass _ (sizeOf (s .tables)) (eqb-true _ 0 (q .0)) k b (rw (r .size) d))) in
-      absurd (eqb-false (waitingCount (s .tables)) 0 (not-true _ (q .1)) (none-passes _ (sizeOf (s .tables)) (λ k b d. by-bool (isWaiting (modeOf (s .tables) k)) (λ t. absurd (calm k (is-one (modeOf (s .tables) k) t))) (λ t. t)))))
+      absurd (eqb-false (waitingCount (s .tables .rig)) 0 (not-true _ (q .1)) (none-passes _ (sizeOf (s .tables)) (λ k b d. by-bool (isWaiting (modeOf (s .tables) k)) (λ t. absurd (calm k (is-one (modeOf (s .tables) k) t))) (λ t. t)))))
       (λ e. e)
 
   sound : Sound s

@@ -2,9 +2,10 @@
 -- the count under way."
 use Prim.Native.Nat.{ℕ, _+_}
 use mathlib.Core.List.{List, [], _∷_}
+use Rattle.rig.specs.declared.Rig.{Rig}
 use Rattle.rig.specs.declared.Event.{Event}
 use Rattle.basics.specs.Helpers.{lowest}
-use Rattle.model.specs.State.{Tables, Stored, sizeOf, modeOf, isInside}
+use Rattle.model.specs.State.{Stored, modeIn, isInside}
 use Rattle.model.specs.Event.{Answer, event}
 use Rattle.model.specs.Run.{waitingCount}
 
@@ -16,15 +17,15 @@ pub record Line : Type 0 where
   pub flying : ℕ
 
 -- the lowest of the sites 1 to n that is inside, 0 none
-unfoldable pub insideUpTo : Tables → ℕ → ℕ
-insideUpTo t n = lowest (λ k. isInside (modeOf t k)) n
+unfoldable pub insideUpTo : Rig → ℕ → ℕ
+insideUpTo g n = lowest (λ k. isInside (modeIn g k)) n
 
 unfoldable pub lineOf : ℕ → Answer → Line
 lineOf place a = record {
   step = place;
   code = a .code;
-  inside = insideUpTo (a .next .tables) (sizeOf (a .next .tables));
-  waiting = waitingCount (a .next .tables);
+  inside = insideUpTo (a .next .tables .rig) (a .next .tables .rig .size);
+  waiting = waitingCount (a .next .tables .rig);
   flying = a .next .count;
 }
 

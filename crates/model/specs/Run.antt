@@ -4,12 +4,13 @@ use mathlib.Core.Path.{_≡_}
 use mathlib.Core.Bool.{Bool, not, _&&_, _||_, cond}
 use mathlib.Core.List.{List, [], _∷_}
 use lib.Dec.{eqb}
+use Rattle.rig.specs.declared.Rig.{Rig}
 use Rattle.rig.specs.declared.Message.{Message}
 use Rattle.rig.specs.declared.Event.{Event}
 use Rattle.rig.specs.Messages.{REPLY, RELEASE, YIELD}
 use Rattle.basics.specs.Helpers.{count, tally}
 use Rattle.model.specs.Setup.{setupCode}
-use Rattle.model.specs.State.{Tables, sizeOf, modeOf, isInside, isWaiting, arbiterOf, heldOf, freshTables, Stored, underWay}
+use Rattle.model.specs.State.{Tables, sizeOf, modeIn, isInside, isWaiting, arbiterOf, heldOf, freshTables, Stored, underWay}
 use Rattle.model.specs.Event.{event}
 
 -- "The run starts from the fresh state of sets that setup passes ... with nothing under way": whatever the lent list holds
@@ -56,20 +57,20 @@ unfoldable pub places : Stored → ℕ → ℕ
 places s j = freeAt (s .tables) j + tally (isOut j) (underWay s) + heldAt (s .tables) j + tally (isBack j) (underWay s)
 
 -- how many sites are inside, and how many wait
-unfoldable pub insideCount : Tables → ℕ
-insideCount t = count (λ k. isInside (modeOf t k)) (sizeOf t)
+unfoldable pub insideCount : Rig → ℕ
+insideCount g = count (λ k. isInside (modeIn g k)) (g .size)
 
-unfoldable pub waitingCount : Tables → ℕ
-waitingCount t = count (λ k. isWaiting (modeOf t k)) (sizeOf t)
+unfoldable pub waitingCount : Rig → ℕ
+waitingCount g = count (λ k. isWaiting (modeIn g k)) (g .size)
 
 -- "A rig is stuck if no message is under way, no site is inside and a site is waiting."
 unfoldable pub stuck : Stored → Bool
-stuck s = eqb (s .count) 0 && (eqb (insideCount (s .tables)) 0 && not (eqb (waitingCount (s .tables)) 0))
+stuck s = eqb (s .count) 0 && (eqb (insideCount (s .tables .rig)) 0 && not (eqb (waitingCount (s .tables .rig)) 0))
 
 -- Demand 3 of a state, in the words of the demand itself, which stands beside document 01: "at most one site inside, each arbiter's
 -- permission in exactly one place, and no stuck rig"
 pub record Sound (s : Stored) : Type 0 where
-  pub exclusion : insideCount (s .tables) ≤ 1
+  pub exclusion : insideCount (s .tables .rig) ≤ 1
   pub onePlace : (j : ℕ) → 1 ≤ j → j ≤ sizeOf (s .tables) → places s j ≡ 1
   pub notStuck : stuck s ≡ Bool.false
 

@@ -90,8 +90,12 @@ hasMember sets k j = member (at 0 sets k) j
 abbrev pub siteOf : Tables → ℕ → Site
 siteOf t k = at restingSite (t .rig .sites) k
 
+-- a site's mode, of a rig
+abbrev pub modeIn : Rig → ℕ → Mode
+modeIn g k = at restingSite (g .sites) k .mode
+
 abbrev pub modeOf : Tables → ℕ → Mode
-modeOf t k = siteOf t k .mode
+modeOf t k = modeIn (t .rig) k
 
 abbrev pub arbiterOf : Tables → ℕ → Arbiter
 arbiterOf t j = at freeArbiter (t .rig .arbiters) j

@@ -2,16 +2,11 @@
 use Prim.Native.Nat.{ℕ}
 use mathlib.Core.Path.{_≡_, refl}
 use mathlib.Core.List.{List}
-use lib.ListN.{replicate, length-replicate}
-use Rattle.rig.specs.Limits.{messageLimit, blankTable}
-use Rattle.list_rows.specs.Places.{zeroRow}
+use lib.ListN.{replicate}
+use Rattle.rig.specs.Limits.{messageLimit, blankTables}
+use Rattle.list_rows.specs.Rows.{zeroRow}
 use Rattle.player_text.specs.declared.Player.{Player}
-use Rattle.player_text.specs.Playing.{beginning, Playing}
+use Rattle.player_text.specs.Calls.{beginning, PlayerFits}
 
-pub playing : {p : Player} {held heir inquired queued : List (List ℕ)} → p ≡ beginning
-    → held ≡ blankTable → heir ≡ blankTable → inquired ≡ blankTable → queued ≡ blankTable
-    → Playing p held heir inquired queued (replicate messageLimit zeroRow)
-playing e a b c d = rw e (record {
-  long = length-replicate messageLimit zeroRow;
-  fits = record { noneHeld = a; noHeir = b; noneInquired = c; noneQueued = d; noneUnderWay = refl };
-})
+pub begun : {p : Player} {ts : List (List (List ℕ))} → p ≡ beginning → ts ≡ blankTables → PlayerFits p ts (replicate messageLimit zeroRow)
+begun e t = rw e (record { fits = record { noneStored = t; noneUnderWay = refl } })

@@ -1,21 +1,22 @@
 // A text of events from a file descriptor, played to its end: the lines that document 01 fixes go to standard output.
 // The buffers are fixed: a line's first bytes wait at the front of the input until the rest of it is read.
-use player_grammar::LINE_LIMIT;
 use libc::STDOUT_FILENO;
-use list_rows::Row;
+use list_rows::Rows;
+use player_grammar::LINE_LIMIT;
 use player_lines::finish;
 use player_lines::line;
+use player_printing::PAGE_LENGTH;
 use player_text::Player;
 use player_text::Stage;
 use player_text::begin;
-use player_printing::PAGE_LENGTH;
+use rig::Message;
 use rig::Rig;
-use rig::Table;
+use rig::Tables;
 ghost use mathlib.Core.Path.{_≡_};
 ghost use Prim.Native.Nat.{_≤_, _<_, _+_};
 ghost use lib.ListN.{length};
 ghost use Rattle.player_printing.specs.Printing.{pageLength};
-ghost use Rattle.player_text.specs.Playing.{Playing};
+ghost use Rattle.player_text.specs.Calls.{PlayerFits};
 
 // What is left of a chunk of input: the player, and where the first line that has no end yet begins.
 struct Rest {
@@ -33,7 +34,7 @@ fn is_over(p: Player) -> bool {
     }
 }
 
-// An inner call: where n bytes go behind the first `at` bytes of the output, which is written out first where they do not fit.
+// Where n bytes go behind the first `at` bytes of the output, which is written out first where they do not fit.
 fn place_for(output: &[u8], at: usize, n: usize) -> usize
     requires { ⌜ (at ≤ length (now output)) × (n ≤ length (now output)) ⌝ }
     ensures { λ r. ⌜ r + n ≤ length (now (output .entry)) ⌝ }
@@ -45,7 +46,7 @@ fn place_for(output: &[u8], at: usize, n: usize) -> usize
     0
 }
 
-// An inner call: n bytes of the page go to the output, behind its first `at` bytes.
+// N bytes of the page go to the output, behind its first `at` bytes.
 fn put_out(output: &mut [u8], at: usize, page: &[u8], n: usize) -> usize
     requires { ⌜ (at ≤ length (now output)) × (n ≤ length (now output)) × (n ≤ length (now page)) ⌝ }
     ensures { λ r. ⌜ r ≤ length (now (output .exit)) ⌝ }
@@ -58,20 +59,17 @@ fn put_out(output: &mut [u8], at: usize, page: &[u8], n: usize) -> usize
     to + n
 }
 
-// An inner call: plays the lines that end within the first `filled` bytes, and writes what they print.
+// Plays the lines that end within the first `filled` bytes, and writes what they print.
 fn play_lines(
     p: Player,
-    held: &mut Table,
-    heir: &mut Table,
-    inquired: &mut Table,
-    queued: &mut Table,
-    list: &mut [Row],
+    tables: &mut Tables,
+    list: &mut Rows,
     input: &[u8],
     filled: usize,
     output: &mut [u8],
 ) -> Rest
-    requires { ⌜ Playing p (now held) (now heir) (now inquired) (now queued) (now list) × (filled ≤ length (now input)) × (pageLength ≤ length (now output)) ⌝ }
-    ensures { λ r. ⌜ Playing (r .player) (now (held .exit)) (now (heir .exit)) (now (inquired .exit)) (now (queued .exit)) (now (list .exit)) × (r .from ≤ filled) ⌝ }
+    requires { ⌜ PlayerFits p (now tables) (now list) × (filled ≤ length (now input)) × (pageLength ≤ length (now output)) ⌝ }
+    ensures { λ r. ⌜ PlayerFits (r .player) (now (tables .exit)) (now (list .exit)) × (r .from ≤ filled) ⌝ }
 {
     let mut page = [0u8; PAGE_LENGTH];
     let mut q = p;
@@ -82,16 +80,7 @@ fn play_lines(
         if end >= filled {
             break;
         }
-        let said = line(
-            q,
-            held,
-            heir,
-            inquired,
-            queued,
-            list,
-            &mut page,
-            &input[from..end],
-        );
+        let said = line(q, tables, list, &mut page, &input[from..end]);
         q = said.player;
         at = put_out(output, at, &page, said.printed);
         from = end + 1;
@@ -103,7 +92,7 @@ fn play_lines(
     }
 }
 
-// An inner call: the bytes from `from` to `filled` move to the front; answers how many they are.
+// The bytes from `from` to `filled` move to the front; answers how many they are.
 fn move_up(input: &mut [u8], from: usize, filled: usize) -> usize
     requires { ⌜ (from ≤ filled) × (filled ≤ length (now input)) ⌝ }
     ensures { λ r. ⌜ (r ≤ filled) × (r + from ≡ filled) ⌝ }
@@ -116,7 +105,7 @@ fn move_up(input: &mut [u8], from: usize, filled: usize) -> usize
     n
 }
 
-// An inner call: reads behind the first `filled` bytes; answers how many bytes came, 0 at the end of the input.
+// Reads behind the first `filled` bytes; answers how many bytes came, 0 at the end of the input.
 fn read_more(fd: i32, input: &mut [u8], filled: usize) -> usize
     requires { ⌜ filled ≤ length (now input) ⌝ }
     ensures { λ r. ⌜ filled + r ≤ length (now (input .exit)) ⌝ }
@@ -127,11 +116,8 @@ fn read_more(fd: i32, input: &mut [u8], filled: usize) -> usize
 
 // Plays the text that `fd` gives. Its turns are counted down from a number that no run uses up, since a proved loop has to end.
 pub fn play_from(fd: i32) {
-    let mut held = Rig::blank();
-    let mut heir = Rig::blank();
-    let mut inquired = Rig::blank();
-    let mut queued = Rig::blank();
-    let mut list = [[0u64; 5]; Rig::MESSAGES];
+    let mut tables = Rig::blank();
+    let mut list = [[0u64; Message::FIELDS]; Rig::MESSAGES];
     let mut input = io::large_buffer();
     let mut output = io::large_buffer();
     let mut page = [0u8; PAGE_LENGTH];
@@ -145,33 +131,14 @@ pub fn play_from(fd: i32) {
             io::write_all(STDOUT_FILENO, &page[..n]);
             return;
         }
-        let rest = play_lines(
-            p,
-            &mut held,
-            &mut heir,
-            &mut inquired,
-            &mut queued,
-            &mut list,
-            &input,
-            filled + got,
-            &mut output,
-        );
+        let rest = play_lines(p, &mut tables, &mut list, &input, filled + got, &mut output);
         p = rest.player;
         filled = move_up(&mut input, rest.from, filled + got);
         if is_over(p) {
             return;
         }
         if filled > LINE_LIMIT {
-            let said = line(
-                p,
-                &mut held,
-                &mut heir,
-                &mut inquired,
-                &mut queued,
-                &mut list,
-                &mut page,
-                &input[..filled],
-            );
+            let said = line(p, &mut tables, &mut list, &mut page, &input[..filled]);
             io::write_all(STDOUT_FILENO, &page[..said.printed]);
             return;
         }

@@ -7,27 +7,15 @@ use lib.Dec.{eqb, leb}
 use lib.ListN.{length}
 use borrow.Author.Tests.{eqb-true, leb-true, leb-false}
 use Rattle.rig.specs.Limits.{siteLimit}
+use Rattle.rig.specs.declared.Rig.{Rig}
 use Rattle.rig.specs.declared.Site.{Site}
 use Rattle.rig.specs.declared.Mode.the-variants.{Rest}
 use Rattle.basics.specs.Helpers.{count, lowest}
 use Rattle.basics.proofs.Basics.{by-bool}
 use Rattle.model.specs.Setup.{restingSite}
-use Rattle.model.specs.State.{Tables, modeOf, isWaiting}
-use Rattle.model.specs.Run.{waitingCount}
+use Rattle.model.specs.State.{modeIn, isWaiting}
 use Rattle.model.specs.Printed.{insideUpTo}
 use Rattle.model.proofs.Tables.{at-past}
-use Rattle.members.specs.Ties.{tablesOf}
-
--- For callers: the counts read nothing of the four other tables.
-
-pub inside-same : (t : Tables) (n : ℕ) → insideUpTo (tablesOf (t .rig)) n ≡ insideUpTo t n
-unfolding insideUpTo lowest
-inside-same t zero = refl
-inside-same t (suc n) = rw (inside-same t n)
-
-pub waiting-same : (t : Tables) → waitingCount (tablesOf (t .rig)) ≡ waitingCount t
-unfolding waitingCount
-waiting-same t = refl
 
 -- no more pass than there are
 pub count-within : (p : ℕ → Bool) (n r : ℕ) → r ≡ count p n → r ≤ n
@@ -46,14 +34,14 @@ stays f l h (suc n) =
     (λ q. let w = leb-false (suc n) l q in let e : min (suc n) l ≡ min n l = omega arith in rw e (stays f l h n ∙ sym (h n (omega arith))))
 
 -- the sites past those stored are at rest
-module _ (t : Tables) (long : length (t .rig .sites) ≡ siteLimit) where
-  mode-past : (n : ℕ) → siteLimit ≤ n → modeOf t (suc n) ≡ Rest
-  mode-past n h = ap (λ (s : Site). s .mode) (at-past restingSite (t .rig .sites) (suc n) (omega arith))
+module _ (g : Rig) (long : length (g .sites) ≡ siteLimit) where
+  mode-past : (n : ℕ) → siteLimit ≤ n → modeIn g (suc n) ≡ Rest
+  mode-past n h = ap (λ (s : Site). s .mode) (at-past restingSite (g .sites) (suc n) (omega arith))
 
-  pub inside-stored : (n : ℕ) → insideUpTo t (min n siteLimit) ≡ insideUpTo t n
+  pub inside-stored : (n : ℕ) → insideUpTo g (min n siteLimit) ≡ insideUpTo g n
   unfolding insideUpTo lowest
-  inside-stored = stays (insideUpTo t) siteLimit (λ n h. by-bool (eqb (insideUpTo t n) 0) (λ q. rw (q, mode-past n h) (sym (eqb-true _ 0 q))) (λ q. rw q))
+  inside-stored = stays (insideUpTo g) siteLimit (λ n h. by-bool (eqb (insideUpTo g n) 0) (λ q. rw (q, mode-past n h) (sym (eqb-true _ 0 q))) (λ q. rw q))
 
-  pub waiting-stored : (n : ℕ) → count (λ k. isWaiting (modeOf t k)) (min n siteLimit) ≡ count (λ k. isWaiting (modeOf t k)) n
+  pub waiting-stored : (n : ℕ) → count (λ k. isWaiting (modeIn g k)) (min n siteLimit) ≡ count (λ k. isWaiting (modeIn g k)) n
   unfolding count
-  waiting-stored = stays (count (λ k. isWaiting (modeOf t k))) siteLimit (λ n h. rw (mode-past n h))
+  waiting-stored = stays (count (λ k. isWaiting (modeIn g k))) siteLimit (λ n h. rw (mode-past n h))

@@ -1,8 +1,8 @@
 // What a printed line says of a rig's sites: which one is inside, and how many wait.
-use rig_reads::is_inside;
-use rig_reads::is_waiting;
 use rig::Rig;
 use rig::Site;
+use rig_reads::is_inside;
+use rig_reads::is_waiting;
 ghost use mathlib.Core.Path.{_≡_};
 ghost use mathlib.Core.Bool.{cond};
 ghost use Prim.Native.Nat.{suc, min, _<_};
@@ -10,9 +10,8 @@ ghost use Rattle.rig.specs.Limits.{siteLimit};
 ghost use Rattle.model.specs.State.{isWaiting};
 ghost use Rattle.model.specs.Run.{waitingCount};
 ghost use Rattle.model.specs.Printed.{insideUpTo};
-ghost use Rattle.members.specs.Ties.{tablesOf};
 
-// How many sites there are to look at: a rig holds no more than 31.
+// How many sites there are to look at: no more than a rig holds.
 fn stored_sites(size: u64) -> usize
     ensures { λ r. ⌜ r ≡ min size siteLimit ⌝ }
 {
@@ -25,7 +24,7 @@ fn stored_sites(size: u64) -> usize
 
 // The site inside, the lowest where there are several, 0 none.
 pub fn inside(rig: Rig) -> u64
-    ensures { λ r. ⌜ r ≡ insideUpTo (tablesOf rig) (rig .size) ⌝ }
+    ensures { λ r. ⌜ r ≡ insideUpTo rig (rig .size) ⌝ }
 {
     let n = stored_sites(rig.size);
     for i in 0..n {
@@ -47,7 +46,7 @@ fn with_site(n: u64, site: Site) -> u64
 
 // How many sites wait.
 pub fn waiting(rig: Rig) -> u64
-    ensures { λ r. ⌜ r ≡ waitingCount (tablesOf rig) ⌝ }
+    ensures { λ r. ⌜ r ≡ waitingCount rig ⌝ }
 {
     let end = stored_sites(rig.size);
     let mut n = 0;

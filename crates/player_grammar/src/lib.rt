@@ -33,7 +33,7 @@ fn is_digit(b: u8) -> bool
     b <= b'9'
 }
 
-// An inner call: the number n with one digit behind it.
+// The number n with one digit behind it.
 fn with_digit(n: u64, b: u8) -> u64
     requires { ⌜ (n ≤ 999) × (isDigit b ≡ true) ⌝ }
     ensures { λ r. ⌜ r ≡ n * 10 + (b - 48) ⌝ }

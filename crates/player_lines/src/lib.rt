@@ -1,8 +1,10 @@
 // The player: reads a text of events line by line, and writes the lines that document 01 fixes.
+use list_rows::Rows;
 use player_event::play_event;
 use player_grammar::Line;
 use player_grammar::meaning;
-use list_rows::Row;
+use player_printing::Page;
+use player_printing::stop_line;
 use player_text::Player;
 use player_text::Said;
 use player_text::Stage;
@@ -10,44 +12,21 @@ use player_text::on_set;
 use player_text::on_size;
 use player_text::one_more;
 use player_text::stop;
-use player_printing::Page;
-use player_printing::stop_line;
 use rig::Event;
-use rig::Table;
-ghost use mathlib.Core.Path.{_≡_};
-ghost use lib.ListN.{length};
-ghost use Rattle.rig.specs.Limits.{messageLimit};
+use rig::Tables;
 ghost use Rattle.player_text.specs.declared.Stage.the-variants.{Events};
 ghost use Rattle.player_text.specs.Player.{eventIn, onEvent, onLine};
-ghost use Rattle.player_text.specs.Playing.{text, HoldsAt, Playing, Spoke, Ended};
+ghost use Rattle.player_text.specs.Calls.{before, HoldsAt, PlayerFits, Gives, Ended};
 
 // A line behind the sets.
-fn on_event(
-    p: Player,
-    held: &mut Table,
-    heir: &mut Table,
-    inquired: &mut Table,
-    queued: &mut Table,
-    list: &mut [Row],
-    page: &mut Page,
-    m: Line,
-) -> Said
-    requires { ⌜ (length (now list) ≡ messageLimit) × HoldsAt Events p (now held) (now heir) (now inquired) (now queued) (now list) ⌝ }
-    ensures { λ r. ⌜ Spoke (onEvent (text p (now (held .entry)) (now (heir .entry)) (now (inquired .entry)) (now (queued .entry)) (now (list .entry))) (eventIn m)) (text (r .player) (now (held .exit)) (now (heir .exit)) (now (inquired .exit)) (now (queued .exit)) (now (list .exit))) (now (page .entry)) (now (page .exit)) (r .printed) × Playing (r .player) (now (held .exit)) (now (heir .exit)) (now (inquired .exit)) (now (queued .exit)) (now (list .exit)) ⌝ }
+fn on_event(p: Player, tables: &mut Tables, list: &mut Rows, page: &mut Page, m: Line) -> Said
+    requires { ⌜ HoldsAt Events p (now tables) (now list) ⌝ }
+    ensures { λ r. ⌜ Gives (onEvent (before p tables list) (eventIn m)) r tables list page ⌝ }
 {
     match m {
-        Line::Ask(s) => play_event(p, held, heir, inquired, queued, list, page, Event::Ask(s)),
-        Line::Leave(s) => play_event(p, held, heir, inquired, queued, list, page, Event::Leave(s)),
-        Line::Move(a, b) => play_event(
-            p,
-            held,
-            heir,
-            inquired,
-            queued,
-            list,
-            page,
-            Event::Deliver(a, b),
-        ),
+        Line::Ask(s) => play_event(p, tables, list, page, Event::Ask(s)),
+        Line::Leave(s) => play_event(p, tables, list, page, Event::Leave(s)),
+        Line::Move(a, b) => play_event(p, tables, list, page, Event::Deliver(a, b)),
         Line::Sites(n) => stop(p, page, 11, one_more(p.line)),
         Line::Set(s) => stop(p, page, 11, one_more(p.line)),
         Line::Malformed => stop(p, page, 11, one_more(p.line)),
@@ -55,25 +34,16 @@ fn on_event(
 }
 
 // An inner call: one line, its bytes before byte 10. The player and what it is lent are as `begin` or an earlier line left them.
-pub fn line(
-    p: Player,
-    held: &mut Table,
-    heir: &mut Table,
-    inquired: &mut Table,
-    queued: &mut Table,
-    list: &mut [Row],
-    page: &mut Page,
-    bytes: &[u8],
-) -> Said
-    requires { ⌜ Playing p (now held) (now heir) (now inquired) (now queued) (now list) ⌝ }
-    ensures { λ r. ⌜ Spoke (onLine (text p (now (held .entry)) (now (heir .entry)) (now (inquired .entry)) (now (queued .entry)) (now (list .entry))) (now (bytes .entry))) (text (r .player) (now (held .exit)) (now (heir .exit)) (now (inquired .exit)) (now (queued .exit)) (now (list .exit))) (now (page .entry)) (now (page .exit)) (r .printed) × Playing (r .player) (now (held .exit)) (now (heir .exit)) (now (inquired .exit)) (now (queued .exit)) (now (list .exit)) ⌝ }
+pub fn line(p: Player, tables: &mut Tables, list: &mut Rows, page: &mut Page, bytes: &[u8]) -> Said
+    requires { ⌜ PlayerFits p (now tables) (now list) ⌝ }
+    ensures { λ r. ⌜ Gives (onLine (before p tables list) (now (bytes .entry))) r tables list page ⌝ }
 {
     let m = meaning(bytes);
     let stage = p.stage;
     match stage {
         Stage::Size => on_size(p, page, m),
         Stage::Sets => on_set(p, page, m),
-        Stage::Events => on_event(p, held, heir, inquired, queued, list, page, m),
+        Stage::Events => on_event(p, tables, list, page, m),
         Stage::Over => Said {
             player: p,
             printed: 0,

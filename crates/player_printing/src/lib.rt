@@ -31,7 +31,7 @@ fn places(n: u64) -> usize
     k
 }
 
-// An inner call: n in decimal from place `at` on, the last digit first; answers the place behind it.
+// N in decimal from place `at` on, the last digit first; answers the place behind it.
 fn put_decimal(page: &mut [u8], at: usize, n: u64) -> usize
     requires { ⌜ at + 20 ≤ length (now page) ⌝ }
     ensures { λ r. ⌜ Wrote (decimal n) at (now (page .entry)) (now (page .exit)) r ⌝ }
@@ -48,7 +48,7 @@ fn put_decimal(page: &mut [u8], at: usize, n: u64) -> usize
     end
 }
 
-// An inner call: a word from place `at` on; answers the place behind it.
+// A word from place `at` on; answers the place behind it.
 fn put_word(page: &mut [u8], at: usize, word: &[u8]) -> usize
     requires { ⌜ at + length (now word) ≤ length (now page) ⌝ }
     ensures { λ r. ⌜ Wrote (now (word .entry)) at (now (page .entry)) (now (page .exit)) r ⌝ }
@@ -59,7 +59,7 @@ fn put_word(page: &mut [u8], at: usize, word: &[u8]) -> usize
     at + word.len()
 }
 
-// An inner call: a word and a number.
+// A word and a number.
 fn put_field(page: &mut [u8], at: usize, word: &[u8], n: u64) -> usize
     requires { ⌜ at + length (now word) + 20 ≤ length (now page) ⌝ }
     ensures { λ r. ⌜ Wrote (now (word .entry) ++ decimal n) at (now (page .entry)) (now (page .exit)) r ⌝ }

@@ -4,7 +4,7 @@ use mathlib.Core.Path.{_≡_, refl}
 use mathlib.Core.List.{List, [], map}
 use mathlib.Core.Option.{some}
 use native.Mathlib.Numerals.{add-one}
-use lib.ListN.{length, set}
+use lib.ListN.{set, replicate}
 use borrow.Author.Tests.{le-leb, lt-ltb}
 use Rattle.rig.specs.declared.Rig.{Rig}
 use Rattle.rig.specs.Limits.{siteLimit, messageLimit}
@@ -12,13 +12,13 @@ use Rattle.model.specs.Tables.{put}
 use Rattle.model.specs.Setup.{sizeListed, setupCode, freshRig}
 use Rattle.model.specs.State.{freshTables}
 use Rattle.model.specs.Run.{fresh, run}
-use Rattle.list_rows.specs.Rows.{messageOf}
+use Rattle.list_rows.specs.Rows.{messageOf, zeroRow}
 use Rattle.player_printing.specs.Printing.{stopLine, Printed}
 use Rattle.player_text.specs.declared.Player.{Player}
 use Rattle.player_text.specs.declared.Said.{Said}
 use Rattle.player_text.specs.declared.Stage.the-variants.{Sets, Events}
 use Rattle.player_text.specs.Player.{Outcome, counted, stopped, onSize, allGiven, onSet}
-use Rattle.player_text.specs.Playing.{text, over, Untouched, Playing, Spoke}
+use Rattle.player_text.specs.Calls.{text, over, Untouched, PlayerFits, GivesOutcome}
 
 pub nothing : {page : List ℕ} → Printed [] page page 0
 nothing = record { count = refl; text = refl; rest = refl; long = refl }
@@ -34,37 +34,39 @@ module _ (p : Player) (place : ℕ) where
   abbrev started : List ℕ → Rig → Player
   started sets g = record { stage = Events; line = place; step = p .step; size = p .size; given = p .size; sets = sets; rig = g; count = 0 }
 
-module _ (p : Player) {page : List ℕ} (held heir inquired queued rows : List (List ℕ)) (long : length rows ≡ messageLimit) where
+module _ (p : Player) {page : List ℕ} (ts : List (List (List ℕ))) (rows : List (List ℕ)) where
   pub stops : {after : List ℕ} (r : Said) (code line : ℕ) → (r .player ≡ over p) × Printed (stopLine code line) page after (r .printed)
-      → (o : Outcome) → o ≡ stopped (text p held heir inquired queued rows) code line
-      → Spoke o (text (r .player) held heir inquired queued rows) page after (r .printed) × Playing (r .player) held heir inquired queued rows
+      → (o : Outcome) → o ≡ stopped (text p ts rows) code line
+      → GivesOutcome o (text (r .player) ts rows) page after (r .printed) × PlayerFits (r .player) ts rows
   unfolding stopped
-  stops r code line e o h = rw (h, e .0) (record { known = refl; printed = e .1 }, record { long = long; fits = tt })
+  stops r code line e o h = rw (h, e .0) (record { known = refl; printed = e .1 }, record { fits = tt })
 
-  module _ (untouched : Untouched held heir inquired queued rows) (place : ℕ) (counts : place ≡ counted (p .line)) where
+  module _ (untouched : Untouched ts rows) (place : ℕ) (counts : place ≡ counted (p .line)) where
     -- `sites=`
     pub takes-size : (n : ℕ) → 1 ≤ n → n ≤ siteLimit
-        → Spoke (onSize (text p held heir inquired queued rows) (some n)) (text (sized p place n) held heir inquired queued rows) page page 0
-        × Playing (sized p place n) held heir inquired queued rows
+        → GivesOutcome (onSize (text p ts rows) (some n)) (text (sized p place n) ts rows) page page 0
+        × PlayerFits (sized p place n) ts rows
     unfolding onSize sizeListed
-    takes-size n low high = rw (counts, le-leb 1 n low, le-leb n siteLimit high) (record { known = refl; printed = nothing }, record { long = long; fits = (untouched, high, low) })
+    takes-size n low high = rw (counts, le-leb 1 n low, le-leb n siteLimit high) (record { known = refl; printed = nothing }, record { fits = (untouched, high, low) })
 
     -- one of the sets, not the last
     pub takes-set : (v : ℕ) → p .size ≤ siteLimit → p .given + 1 < p .size
-        → Spoke (onSet (text p held heir inquired queued rows) (some v)) (text (longer p place (set (p .sets) (p .given) v)) held heir inquired queued rows) page page 0
-        × Playing (longer p place (set (p .sets) (p .given) v)) held heir inquired queued rows
+        → GivesOutcome (onSet (text p ts rows) (some v)) (text (longer p place (set (p .sets) (p .given) v)) ts rows) page page 0
+        × PlayerFits (longer p place (set (p .sets) (p .given) v)) ts rows
     unfolding onSet put
-    takes-set v high less = rw (counts, lt-ltb (p .given + 1) (p .size) less) (record { known = rw add-one; printed = nothing }, record { long = long; fits = (untouched, high, less) })
+    takes-set v high less = rw (counts, lt-ltb (p .given + 1) (p .size) less) (record { known = rw add-one; printed = nothing }, record { fits = (untouched, high, less) })
 
     -- the last one: sets that pass
     pub starts : (sets : List ℕ) (g : Rig) → setupCode (p .size) sets ≡ 0 → g ≡ freshRig (p .size) sets
-        → Spoke (allGiven (text p held heir inquired queued rows) sets) (text (started p place sets g) held heir inquired queued rows) page page 0
-        × Playing (started p place sets g) held heir inquired queued rows
+        → GivesOutcome (allGiven (text p ts rows) sets) (text (started p place sets g) ts rows) page page 0
+        × PlayerFits (started p place sets g) ts rows
     unfolding allGiven fresh freshTables run
-    starts sets g e f = rw (counts, e, f, untouched .noneHeld, untouched .noHeir, untouched .noneInquired, untouched .noneQueued) (
-      record { known = refl; printed = nothing },
-      record {
-        long = long;
-        fits = (record { size = p .size; sets = sets; list = map messageOf rows; events = []; passed = e; same = refl }, untouched .noneUnderWay);
-      },
-    )
+    starts sets g e f =
+        let ts-same = untouched .noneStored in
+        let rows-same = untouched .noneUnderWay in
+        rw (counts, e, f, ts-same, rows-same) (
+          record { known = refl; printed = nothing },
+          record {
+            fits = (record { run = record { size = p .size; sets = sets; list = map messageOf (replicate messageLimit zeroRow); events = []; passed = e; same = refl }; long = refl }, refl);
+          },
+        )

@@ -1,3 +1,3 @@
 -- Document 01, "The player", and what the calls promise.
 pub mod Player
-pub mod Playing
+pub mod Calls

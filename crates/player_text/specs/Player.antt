@@ -7,10 +7,11 @@ use lib.Dec.{eqb, ltb}
 use lib.ListN.{replicate}
 use Rattle.rig.specs.declared.Event.{Event}
 use Rattle.rig.specs.declared.Event.the-variants.{Ask as AskBy, Leave as LeaveBy, Deliver}
-use Rattle.rig.specs.Limits.{siteLimit, messageLimit, blankTable}
+use Rattle.rig.specs.Limits.{siteLimit, messageLimit, blankTables}
 use Rattle.model.specs.Tables.{put}
 use Rattle.model.specs.Setup.{sizeListed, setupCode, noRig}
-use Rattle.model.specs.Event.{Stored, Answer, event, blankMessage}
+use Rattle.model.specs.State.{Stored, tables}
+use Rattle.model.specs.Event.{Answer, event, blankMessage}
 use Rattle.model.specs.Run.{fresh}
 use Rattle.model.specs.Printed.{lineOf}
 use Rattle.setup.specs.Faults.{faultLine}
@@ -139,7 +140,7 @@ start = record {
   given = 0;
   sets = replicate siteLimit 0;
   state = record {
-    tables = record { rig = noRig; held = blankTable; heir = blankTable; inquired = blankTable; queued = blankTable };
+    tables = tables noRig blankTables;
     list = replicate messageLimit blankMessage;
     count = 0;
   };

@@ -12,7 +12,7 @@ ghost use Rattle.rig.specs.Limits.{siteLimit};
 ghost use Rattle.player_printing.specs.Printing.{stopLine, Printed};
 ghost use Rattle.player_text.specs.declared.Stage.the-variants.{Size, Sets};
 ghost use Rattle.player_text.specs.Player.{counted, sizeIn, setIn, onSize, allGiven, onSet};
-ghost use Rattle.player_text.specs.Playing.{beginning, over, BeforeEvents};
+ghost use Rattle.player_text.specs.Calls.{beginning, over, BeforeEvents};
 
 // Which line comes next: `sites=`, a `set=`, an event, or none, since the run has ended.
 pub enum Stage {
@@ -119,7 +119,7 @@ pub fn on_size(p: Player, page: &mut Page, m: Line) -> Said
     }
 }
 
-// An inner call: all sets are there. The run begins, or ends with 2 or 3.
+// All sets are there. The run begins, or ends with 2 or 3.
 fn all_given(p: Player, page: &mut Page, sets: [u64; Rig::SITES]) -> Said
     requires { ⌜ p .size ≤ siteLimit ⌝ }
     ensures { λ r. ⌜ BeforeEvents Sets (λ t. allGiven t sets) p (now (page .entry)) (now (page .exit)) r ⌝ }

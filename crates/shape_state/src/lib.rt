@@ -1,5 +1,5 @@
 // Whether a stored state is well shaped, else code 10 of document 01: the tests of its messages, and `well_shaped`, which answers for
-// every input: a size past 31, a site outside the tables, a kind that no message has, a count past 1,024.
+// every input: a size past the limit, a site outside the tables, a kind that no message has, a count past 1,024.
 use list_rows::Row;
 use list_rows::Rows;
 use list_rows::message;

@@ -1,12 +1,12 @@
 // What a site does when it asks for its members' permissions, and when it leaves.
 use event_effects::Acted;
 use list_rows::Row;
-use rig_reads::is_member;
 use rig::Desk;
 use rig::Message;
 use rig::Mode;
 use rig::Rig;
 use rig::Site;
+use rig_reads::is_member;
 ghost use mathlib.Core.Path.{_≡_};
 ghost use Prim.Native.Nat.{_<_, _≤_, _+_};
 ghost use lib.ListN.{length};

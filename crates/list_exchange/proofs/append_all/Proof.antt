@@ -5,7 +5,7 @@ use mathlib.Core.List.{[]}
 use native.Mathlib.Omega.{arith}
 use native.Mathlib.Numerals.{add-one}
 use lib.ListN.{length, length-set}
-use lib.Seq.{paste, paste-zero, paste-suc, take-paste}
+use lib.Seq.{paste, paste-zero, paste-suc}
 use borrow.Author.Needs.{needs}
 use Rattle.list_exchange.proofs.append_all.Statement.{statement}
 use Rattle.list_exchange.proofs.append_all.Tie as tie
@@ -59,8 +59,7 @@ returns c =
     let i = p .loop .inv in
     let a = p .before .args in
     let e : p .loop .i ≡ a .m = omega arith in
-    let w : p .loop .list ≡ paste (a .list .now) (a .count) (a .sent .now) (a .m) = rw e at (i .2) in
-    (refl, w, rw w (take-paste (a .list .now) (a .count) (a .sent .now) (a .m) (omega arith) (omega arith)))
+    (refl, rw e at (i .2))
 
 pub append-all-spec : {M : Type 1} → statement M
 append-all-spec =

@@ -1,6 +1,6 @@
 -- `first` meets its contract: a walk of its MIR by hand. `used` bounds a loop, whose turn reads one message, calls `is_between`, and returns or goes on.
 use mathlib.Core.Path.{_≡_, refl, sym, ap, subst, _∙_}
-use Prim.Native.Nat.{ℕ, _+_, _-_, _*_, _<_, _≤_, _^_, zero-le}
+use Prim.Native.Nat.{ℕ, _+_, _-_, _*_, _<_, _≤_, _^_, zero-le, min}
 use native.Mathlib.Nat.{le-antisymm}
 use native.Mathlib.Numerals.{add-one-le}
 use native.Mathlib.Omega.{arith}
@@ -63,7 +63,7 @@ use Rattle.list_search.proofs.is_between as is-between
 use Rattle.list_search.proofs.is_between.Symbol as is-between-def
 use Rattle.list_search.proofs.is_between.Symbol.{name as #list-search·is-between}
 use Rattle.list_search.proofs.is_between.Met as is-between-thm
-use Rattle.list_lent.specs.First.{firstIn, smaller}
+use Rattle.list_lent.specs.First.{firstIn}
 use Rattle.list_lent.proofs.Search.{smaller-le, take-smaller, hit, miss, over}
 use Rattle.list_lent.proofs.used as used
 use Rattle.list_lent.proofs.used.Symbol as used-def
@@ -100,8 +100,8 @@ module _ {M : Type 1} (𝓤 : URA M) (H : Heap 𝓤) (A : Atoms 𝓤) (mem : Mem
   IsBetween = tripleOf 𝓤 H A is-between.signature (is-between.spec 𝓤 H A mem run)
 
   -- of a callee's `ensured`, the clause alone
-  used-said : (c k r : ℕ) → ent 𝓤 (ensured 𝓤 H A used.ended (used.clauses 𝓤 H A mem run) tt (c, (k, tt)) tt r) (fact 𝓤 (r ≡ smaller c k))
-  used-said c k r = exE 𝓤 _ (λ ws. snd∗ 𝓤 (sem 𝓤 H A (lasts used.ended tt (c, (k, tt)) ws)) (fact 𝓤 (r ≡ smaller c k)))
+  used-said : (c k r : ℕ) → ent 𝓤 (ensured 𝓤 H A used.ended (used.clauses 𝓤 H A mem run) tt (c, (k, tt)) tt r) (fact 𝓤 (r ≡ min c k))
+  used-said c k r = exE 𝓤 _ (λ ws. snd∗ 𝓤 (sem 𝓤 H A (lasts used.ended tt (c, (k, tt)) ws)) (fact 𝓤 (r ≡ min c k)))
 
   is-between-said : (m : Message) (a b : ℕ) (r : Bool) → ent 𝓤 (ensured 𝓤 H A is-between.ended (is-between.clauses 𝓤 H A mem run) tt (m, (a, (b, tt))) tt r) (fact 𝓤 (r ≡ between a b m))
   is-between-said m a b r = exE 𝓤 _ (λ ws. snd∗ 𝓤 (sem 𝓤 H A (lasts is-between.ended tt (m, (a, (b, tt))) ws)) (fact 𝓤 (r ≡ between a b m)))
@@ -282,7 +282,7 @@ module _ {M : Type 1} (𝓤 : URA M) (H : Heap 𝓤) (A : Atoms 𝓤) (W : Given
       use0 W (raw (Used 𝓤 H A mem run .pre to-used)) asked-used $
       calls-at ! (fmOf 𝓤 H (W .laws) 𝓣) (Used 𝓤 H A mem run) bounds to-used (and-then ! (load ! (from ! (stop !)) (look ! 21 refl)) (and-then ! (load ! (from ! (stop !)) (look ! 11 refl)) (no-more !))) (λ v.
       use1 W (later (some (λ (n : ℕ). (‵ ftrue ⊛ ‵ (usize .own n (v ∷ []))) ⊛ raw (ensured 𝓤 H A used.ended (used.clauses 𝓤 H A mem run) tt (c, (length ys, tt)) tt n)))) (id⊢ 𝓤 _) $ await ! tt $ pick ! (λ n.
-      split ! $ move ! (1 ∷ []) $ use1 W (raw (fact 𝓤 (n ≡ smaller c (length ys)))) (used-said 𝓤 H A mem run c (length ys) n) $ heard ! (n ≡ smaller c (length ys)) (λ e. split ! $ let-go ! $
+      split ! $ move ! (1 ∷ []) $ use1 W (raw (fact 𝓤 (n ≡ min c (length ys)))) (used-said 𝓤 H A mem run c (length ys) n) $ heard ! (n ≡ min c (length ys)) (λ e. split ! $ let-go ! $
       facts ! usize (Is usize) (shows 𝓤 H A usize) n (v ∷ []) (λ is.
       land ! (from ! (stop !)) (init ! 14 refl (uint-lawful 𝓤 H A W w64 .typed n (v ∷ []) is .0)) $
       rewrite ! 14 (λ (u : Val). ‵ (fat fullShare word l₅ 0 u)) (ap only (uint-tells w64 n (v ∷ []) is)) refl $

@@ -1,49 +1,39 @@
 -- `play_from`: the player and its tables fit each other at every turn, and a line begun is at most `lineLimit` bytes.
-use Prim.Native.Nat.{_≤_, _-_}
+use Prim.Native.Nat.{_≤_}
 use mathlib.Core.Path.{_≡_, refl, sym}
 use native.Mathlib.Omega.{arith}
 use lib.ListN.{length}
 use lib.Seq.{length-take-le}
-use Rattle.rig.specs.Limits.{messageLimit}
+use borrow.Author.Needs.{needs}
 use Rattle.player_grammar.specs.Grammar.{lineLimit}
 use Rattle.player_printing.specs.Printing.{pageLength}
 use Rattle.player_printing.proofs.Lines.{printed-part}
 use Rattle.player_text.specs.Player.{start}
-use Rattle.player_console.proofs.Begin.{playing}
-use Rattle.player_text.specs.Playing.{Playing}
-use borrow.Author.Needs.{needs}
+use Rattle.player_text.specs.Calls.{PlayerFits}
+use Rattle.player_console.proofs.Begin.{begun}
 use Rattle.player_console.proofs.play_from.Statement.{statement}
 use Rattle.player_console.proofs.play_from.Tie as tie
 use Rattle.io.proofs.large_buffer.Reads as large-buffer-reads
 use Rattle.io.proofs.write_all.Reads as write-all-reads
-use Rattle.player_lines.proofs.finish.Reads as finish-reads
-use Rattle.player_lines.proofs.line.Reads as line-reads
 use Rattle.player_console.proofs.is_over.Reads as is-over-reads
 use Rattle.player_console.proofs.move_up.Reads as move-up-reads
 use Rattle.player_console.proofs.play_lines.Reads as play-lines-reads
 use Rattle.player_console.proofs.read_more.Reads as read-more-reads
+use Rattle.player_lines.proofs.finish.Reads as finish-reads
+use Rattle.player_lines.proofs.line.Reads as line-reads
 use Rattle.player_text.proofs.begin.Reads as begin-reads
 use Rattle.rig.proofs.Rig.blank.Reads as blank-reads
 
 abbrev Inv-loop : tie.InvT-loop
-Inv-loop fd held₀ heir₀ inquired₀ queued₀ list₀ input₀ output₀ page₀ p₀ filled₀ turns₀ held heir inquired queued list input output page p filled turns =
-    Playing p held heir inquired queued list × (filled ≤ lineLimit) × (length list ≡ messageLimit) × (length input ≡ 65_536) × (length output ≡ 65_536) × (length page ≡ pageLength)
+Inv-loop fd tables₀ list₀ input₀ output₀ page₀ p₀ filled₀ turns₀ tables list input output page p filled turns =
+    PlayerFits p tables list × (filled ≤ lineLimit) × (length input ≡ 65_536) × (length output ≡ 65_536) × (length page ≡ pageLength)
 
 abbrev μ-loop : tie.MeasureT-loop
-μ-loop fd held₀ heir₀ inquired₀ queued₀ list₀ input₀ output₀ page₀ p₀ filled₀ turns₀ held heir inquired queued list input output page p filled turns =
+μ-loop fd tables₀ list₀ input₀ output₀ page₀ p₀ filled₀ turns₀ tables list input output page p filled turns =
     turns
 
 blank-requires : tie.Need-blank-requires Inv-loop μ-loop
 blank-requires c κs = search needs
-
-blank-requires-2 : tie.Need-blank-requires-2 Inv-loop μ-loop
-blank-requires-2 c κs = search needs
-
-blank-requires-3 : tie.Need-blank-requires-3 Inv-loop μ-loop
-blank-requires-3 c κs = search needs
-
-blank-requires-4 : tie.Need-blank-requires-4 Inv-loop μ-loop
-blank-requires-4 c κs = search needs
 
 large-buffer-requires : tie.Need-large-buffer-requires Inv-loop μ-loop
 large-buffer-requires c κs = search needs
@@ -55,14 +45,7 @@ begin-requires : tie.Need-begin-requires Inv-loop μ-loop
 begin-requires c κs = search needs
 
 loop-holds : tie.Need-loop-holds Inv-loop μ-loop
-loop-holds c = (
-  playing (c .begin .ensures) (c .before .before .before .before .before .before .blank .ensures) (c .before .before .before .before .before .blank2 .ensures) (c .before .before .before .before .blank3 .ensures) (c .before .before .before .blank4 .ensures),
-  omega arith,
-  refl,
-  sym (c .before .before .large-buffer .ensures),
-  sym (c .before .large-buffer2 .ensures),
-  refl,
-)
+loop-holds c = (begun (c .begin .ensures) (c .before .before .before .blank .ensures), omega arith, sym (c .before .before .large-buffer .ensures), sym (c .before .large-buffer2 .ensures), refl)
 
 slice-aggregate-read-more : tie.Need-slice-aggregate-read-more Inv-loop μ-loop
 slice-aggregate-read-more c = search needs
@@ -94,14 +77,11 @@ returns c = search needs
 slice-aggregate-play-lines : tie.Need-slice-aggregate-play-lines Inv-loop μ-loop
 slice-aggregate-play-lines c = search needs
 
-slice-aggregate-play-lines-2 : tie.Need-slice-aggregate-play-lines-2 Inv-loop μ-loop
-slice-aggregate-play-lines-2 c = search needs
-
 add-play-lines : tie.Need-add-play-lines Inv-loop μ-loop
 add-play-lines c = search needs
 
-slice-aggregate-play-lines-3 : tie.Need-slice-aggregate-play-lines-3 Inv-loop μ-loop
-slice-aggregate-play-lines-3 c = search needs
+slice-aggregate-play-lines-2 : tie.Need-slice-aggregate-play-lines-2 Inv-loop μ-loop
+slice-aggregate-play-lines-2 c = search needs
 
 play-lines-requires : tie.Need-play-lines-requires Inv-loop μ-loop
 play-lines-requires c κs = search needs
@@ -121,23 +101,20 @@ is-over-requires c κs = search needs
 returns-2 : tie.Need-returns-2 Inv-loop μ-loop
 returns-2 c = search needs
 
-slice-aggregate-line : tie.Need-slice-aggregate-line Inv-loop μ-loop
-slice-aggregate-line c = search needs
-
 array-share-prefix-input-2 : tie.Need-array-share-prefix-input-2 Inv-loop μ-loop
 array-share-prefix-input-2 c = search needs
 
-slice-aggregate-line-2 : tie.Need-slice-aggregate-line-2 Inv-loop μ-loop
-slice-aggregate-line-2 c = sym (length-take-le _ _ (array-share-prefix-input-2 (c .before)))
+slice-aggregate-line : tie.Need-slice-aggregate-line Inv-loop μ-loop
+slice-aggregate-line c = sym (length-take-le _ _ (array-share-prefix-input-2 (c .before)))
 
 line-requires : tie.Need-line-requires Inv-loop μ-loop
 line-requires c κs = search needs
 
 array-share-prefix-page-2 : tie.Need-array-share-prefix-page-2 Inv-loop μ-loop
-array-share-prefix-page-2 c = printed-part (c .before .line .ensures .0 .printed) .0
+array-share-prefix-page-2 c = printed-part (c .line .ensures .0 .printed) .0
 
 slice-aggregate-write-all-2 : tie.Need-slice-aggregate-write-all-2 Inv-loop μ-loop
-slice-aggregate-write-all-2 c = printed-part (c .before .before .line .ensures .0 .printed) .1
+slice-aggregate-write-all-2 c = printed-part (c .before .line .ensures .0 .printed) .1
 
 write-all-requires-2 : tie.Need-write-all-requires-2 Inv-loop μ-loop
 write-all-requires-2 c κs = search needs
@@ -152,7 +129,7 @@ loop-less : tie.Need-loop-less Inv-loop μ-loop
 loop-less c = search needs
 
 loop-again : tie.Need-loop-again Inv-loop μ-loop
-loop-again c = (c .before .before .before .before .before .before .before .before .before .play-lines .ensures .0, c .if3 .left, search needs, search needs, search needs, c .before .before .before .before .before .before .before .before .before .before .before .before .before .before .before .before .before .before .before .before .before .before .loop .inv .5)
+loop-again c = (c .before .before .before .before .before .before .before .before .play-lines .ensures .0, c .if3 .left, search needs, search needs, c .before .before .before .before .before .before .before .before .before .before .before .before .before .before .before .before .before .before .loop .inv .4)
 
 returns-4 : tie.Need-returns-4 Inv-loop μ-loop
 returns-4 c = search needs
@@ -164,9 +141,6 @@ play-from-spec =
     Inv-loop
     μ-loop
     blank-requires
-    blank-requires-2
-    blank-requires-3
-    blank-requires-4
     large-buffer-requires
     large-buffer-requires-2
     begin-requires
@@ -181,18 +155,16 @@ play-from-spec =
     write-all-requires
     returns
     slice-aggregate-play-lines
-    slice-aggregate-play-lines-2
     add-play-lines
-    slice-aggregate-play-lines-3
+    slice-aggregate-play-lines-2
     play-lines-requires
     slice-aggregate-move-up
     add-move-up
     move-up-requires
     is-over-requires
     returns-2
-    slice-aggregate-line
     array-share-prefix-input-2
-    slice-aggregate-line-2
+    slice-aggregate-line
     line-requires
     array-share-prefix-page-2
     slice-aggregate-write-all-2

@@ -4,27 +4,26 @@ use mathlib.Core.Path.{_≡_, refl, sym, _∙_}
 use native.Mathlib.Omega.{arith}
 use lib.ListN.{length}
 use lib.Seq.{length-take-le}
+use borrow.Author.Needs.{needs}
 use Rattle.player_printing.specs.Printing.{pageLength}
 use Rattle.player_printing.proofs.Lines.{printed-part}
-use Rattle.player_text.specs.Playing.{Playing}
-use borrow.Author.Needs.{needs}
+use Rattle.player_text.specs.Calls.{PlayerFits}
 use Rattle.player_console.proofs.play_lines.Statement.{statement}
 use Rattle.player_console.proofs.play_lines.Tie as tie
 use Rattle.bytes.proofs.scan.find.Reads as find-reads
 use Rattle.io.proofs.write_all.Reads as write-all-reads
-use Rattle.player_lines.proofs.line.Reads as line-reads
 use Rattle.player_console.proofs.put_out.Reads as put-out-reads
+use Rattle.player_lines.proofs.line.Reads as line-reads
 
 abbrev Inv-loop : tie.InvT-loop
-Inv-loop held₀ heir₀ inquired₀ queued₀ list₀ input filled output₀ page₀ q₀ from₀ at₀ held heir inquired queued list output page q from at =
-    Playing q held heir inquired queued list × (from ≤ filled) × (at ≤ length output) × (length output ≡ length output₀) × (length list ≡ length list₀) × (length page ≡ pageLength)
+Inv-loop tables₀ list₀ input filled output₀ page₀ q₀ from₀ at₀ tables list output page q from at =
+    PlayerFits q tables list × (from ≤ filled) × (at ≤ length output) × (length output ≡ length output₀) × (length page ≡ pageLength)
 
 abbrev μ-loop : tie.MeasureT-loop
-μ-loop held₀ heir₀ inquired₀ queued₀ list₀ input filled output₀ page₀ q₀ from₀ at₀ held heir inquired queued list output page q from at =
-    filled - from
+μ-loop tables₀ list₀ input filled output₀ page₀ q₀ from₀ at₀ tables list output page q from at = filled - from
 
 loop-holds : tie.Need-loop-holds Inv-loop μ-loop
-loop-holds c = (c .before .before .pre .0, omega arith, omega arith, refl, refl, refl)
+loop-holds c = (c .before .before .pre .0, omega arith, omega arith, refl, refl)
 
 find-requires : tie.Need-find-requires Inv-loop μ-loop
 find-requires c κs = search needs
@@ -39,56 +38,49 @@ part-line-end : tie.Need-part-line-end Inv-loop μ-loop
 part-line-end c = search needs
 
 line-requires : tie.Need-line-requires Inv-loop μ-loop
-line-requires c κs = c .before .before .before .before .before .before .before .before .before .before .loop .inv .0
+line-requires c κs = c .before .before .before .before .before .before .before .loop .inv .0
 
 slice-aggregate-put-out : tie.Need-slice-aggregate-put-out Inv-loop μ-loop
-slice-aggregate-put-out c =
-    let x = c .before .before .before .before .line .ensures .0 .printed in
-    sym (x .long ∙ c .before .before .before .before .before .before .before .before .before .before .before .before .before .before .before .loop .inv .5)
+slice-aggregate-put-out c = sym (c .before .before .before .line .ensures .0 .printed .long ∙ c .before .before .before .before .before .before .before .before .before .before .before .loop .inv .4)
 
 put-out-requires : tie.Need-put-out-requires Inv-loop μ-loop
 put-out-requires c κs =
-    let i = c .before .before .before .before .before .before .before .before .before .before .before .before .before .before .before .loop .inv in
-    let x = c .before .before .before .before .line .ensures .0 .printed in
+    let i = c .before .before .before .before .before .before .before .before .before .before .before .loop .inv in
+    let x = c .before .before .before .line .ensures .0 .printed in
     let few = printed-part x .0 in
-    let long = x .long ∙ i .5 in
-    let room = c .before .before .before .before .before .before .before .before .before .before .before .before .before .before .before .before .before .before .pre .2 in
+    let long = x .long ∙ i .4 in
+    let room = c .before .before .before .before .before .before .before .before .before .before .before .before .before .before .pre .2 in
     (i .2, omega (arith, i .3), few)
 
 add-from : tie.Need-add-from Inv-loop μ-loop
 add-from c =
-    let end = c .before .before .before .before .before .before .before .before .before .before .before .before .before .before .before .if1 .left in
-    let size = c .before .before .before .before .before .before .before .before .before .before .before .before .before .before .before .before .before .before .before .before .before .fits .filled .fits in
+    let end = c .before .before .before .before .before .before .before .before .before .before .before .if1 .left in
+    let size = c .before .before .before .before .before .before .before .before .before .before .before .before .before .before .before .before .before .fits .filled .fits in
     record { fits = omega arith }
 
 loop-less : tie.Need-loop-less Inv-loop μ-loop
 loop-less c =
-    let end = c .before .before .before .before .before .before .before .before .before .before .before .before .before .before .before .if1 .left in
-    let from = c .before .before .before .before .before .before .before .before .before .before .before .before .before .before .before .before .find .ensures .0 in
+    let end = c .before .before .before .before .before .before .before .before .before .before .before .if1 .left in
+    let from = c .before .before .before .before .before .before .before .before .before .before .before .before .find .ensures .0 in
     omega arith
 
 loop-again : tie.Need-loop-again Inv-loop μ-loop
 loop-again c =
-    let i = c .before .before .before .before .before .before .before .before .before .before .before .before .before .before .before .before .before .before .loop .inv in
-    let x = c .before .before .before .before .before .before .before .line .ensures in
-    (x .1, omega (arith, c .before .before .before .before .before .before .before .before .before .before .before .before .before .before .before .if1 .left), c .before .before .put-out .ensures, search needs, search needs, x .0 .printed .long ∙ i .5)
+    let i = c .before .before .before .before .before .before .before .before .before .before .before .before .before .before .loop .inv in
+    let x = c .before .before .before .before .before .before .line .ensures in
+    (x .1, omega (arith, c .before .before .before .before .before .before .before .before .before .before .before .if1 .left), c .before .before .put-out .ensures, search needs, x .0 .printed .long ∙ i .4)
 
 slice-reshare-prefix-write-all : tie.Need-slice-reshare-prefix-write-all Inv-loop μ-loop
 slice-reshare-prefix-write-all c = search needs
 
 slice-aggregate-write-all : tie.Need-slice-aggregate-write-all Inv-loop μ-loop
-slice-aggregate-write-all c =
-    let i = c .before .before .loop .inv in
-    sym (length-take-le _ _ (i .2))
+slice-aggregate-write-all c = sym (length-take-le _ _ (c .before .before .loop .inv .2))
 
 write-all-requires : tie.Need-write-all-requires Inv-loop μ-loop
 write-all-requires c κs = search needs
 
 same-length : tie.Need-same-length Inv-loop μ-loop
 same-length c = search needs
-
-same-length-2 : tie.Need-same-length-2 Inv-loop μ-loop
-same-length-2 c = search needs
 
 returns : tie.Need-returns Inv-loop μ-loop
 returns c = let i = c .before .before .before .loop .inv in (i .0, i .1)
@@ -114,5 +106,4 @@ play-lines-spec =
     slice-aggregate-write-all
     write-all-requires
     same-length
-    same-length-2
     returns)

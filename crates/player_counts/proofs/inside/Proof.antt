@@ -9,13 +9,12 @@ use Rattle.basics.specs.Helpers.{lowest}
 use Rattle.basics.proofs.Basics.{lowest-more, lowest-found}
 use Rattle.model.specs.Tables.{at}
 use Rattle.model.specs.Printed.{insideUpTo}
-use Rattle.members.specs.Ties.{tablesOf}
 use Rattle.player_counts.proofs.Sites.{inside-stored}
 use Rattle.player_counts.proofs.inside.Statement.{statement}
 use Rattle.player_counts.proofs.inside.Tie as tie
 
 abbrev Inv-loop : tie.InvT-loop
-Inv-loop rig n i₀ i = (i ≤ n) × (n ≡ min (rig .size) siteLimit) × (insideUpTo (tablesOf rig) i ≡ 0)
+Inv-loop rig n i₀ i = (i ≤ n) × (n ≡ min (rig .size) siteLimit) × (insideUpTo rig i ≡ 0)
 
 abbrev μ-loop : tie.MeasureT-loop
 μ-loop rig n i₀ i = n - i
@@ -65,7 +64,7 @@ returns-2 c =
     let rig = c .before .before .before .args .t1 in
     let long : length (rig .sites) ≡ siteLimit = sym (length-map (rig .sites) _) ∙ c .before .before .before .good .0 .1 .1 .1 .1 .0 .1 .0 .1 in
     let end : l .i ≡ min (rig .size) siteLimit = omega arith in
-    sym (rw end at (l .inv .2)) ∙ inside-stored (tablesOf rig) long (rig .size)
+    sym (rw end at (l .inv .2)) ∙ inside-stored rig long (rig .size)
 
 pub inside-spec : {M : Type 1} → statement M
 inside-spec =

@@ -8,15 +8,14 @@ use lib.ListN.{length, length-map}
 use Rattle.rig.specs.Limits.{siteLimit}
 use Rattle.basics.specs.Helpers.{count}
 use Rattle.model.specs.Tables.{at}
-use Rattle.model.specs.State.{modeOf, isWaiting}
+use Rattle.model.specs.State.{modeIn, isWaiting}
 use Rattle.model.specs.Run.{waitingCount}
-use Rattle.members.specs.Ties.{tablesOf}
 use Rattle.player_counts.proofs.Sites.{count-within, waiting-stored}
 use Rattle.player_counts.proofs.waiting.Statement.{statement}
 use Rattle.player_counts.proofs.waiting.Tie as tie
 
 abbrev Inv-loop : tie.InvT-loop
-Inv-loop rig end n₀ i₀ n i = (i ≤ end) × (end ≡ min (rig .size) siteLimit) × (n ≡ count (λ k. isWaiting (modeOf (tablesOf rig) k)) i)
+Inv-loop rig end n₀ i₀ n i = (i ≤ end) × (end ≡ min (rig .size) siteLimit) × (n ≡ count (λ k. isWaiting (modeIn rig k)) i)
 
 abbrev μ-loop : tie.MeasureT-loop
 μ-loop rig end n₀ i₀ n i = end - i
@@ -57,7 +56,7 @@ returns c =
     let rig = c .before .before .before .args .t1 in
     let long : length (rig .sites) ≡ siteLimit = sym (length-map (rig .sites) _) ∙ c .before .before .before .good .0 .1 .1 .1 .1 .0 .1 .0 .1 in
     let end : l .i ≡ min (rig .size) siteLimit = omega arith in
-    rw end at (l .inv .2) ∙ waiting-stored (tablesOf rig) long (rig .size)
+    rw end at (l .inv .2) ∙ waiting-stored rig long (rig .size)
 
 pub waiting-spec : {M : Type 1} → statement M
 waiting-spec =

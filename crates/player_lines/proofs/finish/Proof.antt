@@ -1,6 +1,6 @@
 -- `finish`: a lacking line, a line without its end, or nothing.
 use denote.Ref.{now}
-use Rattle.player_text.specs.Playing.{textOf}
+use Rattle.player_text.specs.Calls.{textOf}
 use Rattle.player_text.proofs.Heads.{nothing}
 use Rattle.player_lines.proofs.Stages.{end-size, end-sets, end-over, end-inside-line, end-after-line}
 use borrow.Author.Needs.{needs}

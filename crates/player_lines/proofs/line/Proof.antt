@@ -1,7 +1,7 @@
 -- `line`: what the line does at its stage.
 use mathlib.Core.Path.{refl}
 use denote.Ref.{now}
-use Rattle.player_text.specs.Playing.{text}
+use Rattle.player_text.specs.Calls.{text}
 use Rattle.player_text.proofs.Heads.{nothing}
 use Rattle.player_lines.proofs.Stages.{line-size, line-set, line-event, line-over}
 use borrow.Author.Needs.{needs}
@@ -33,8 +33,7 @@ enum-told-3 : tie.Need-enum-told-3
 enum-told-3 c = search needs
 
 on-event-requires : tie.Need-on-event-requires
-on-event-requires c κs =
-    (c .before .before .before .before .before .before .before .before .before .before .pre .long, rw (c .before .before .before .before .before .before .enum-told3 .given .1) at (c .before .before .before .before .before .before .before .before .before .before .pre .fits))
+on-event-requires c κs = rw (c .before .before .before .enum-told3 .given .1) at (c .before .before .before .before .before .before .before .pre .fits)
 
 enum-told-4 : tie.Need-enum-told-4
 enum-told-4 c = search needs
@@ -43,29 +42,26 @@ returns : tie.Need-returns
 returns c =
     let a = c .before .before .before .before .before .before .args in
     let p = c .before .before .before .before .before .before .pre in
-    let t = text (a .p) (now (a .held)) (now (a .heir)) (now (a .inquired)) (now (a .queued)) (now (a .list)) in
-    rw (line-size t (now (a .bytes)) (c .before .before .enum-told .given .1), ← c .before .before .before .before .meaning .ensures) (c .on-size .ensures (now (a .held)) (now (a .heir)) (now (a .inquired)) (now (a .queued)) (now (a .list)) (p .long) (rw (c .before .before .enum-told .given .1) at (p .fits)))
+    let t = text (a .p) (now (a .tables)) (now (a .list)) in
+    rw (line-size t (now (a .bytes)) (c .before .before .enum-told .given .1), ← c .before .before .before .before .meaning .ensures) (c .on-size .ensures (now (a .tables)) (now (a .list)) (rw (c .before .before .enum-told .given .1) at (p .fits)))
 
 returns-2 : tie.Need-returns-2
 returns-2 c =
     let a = c .before .before .before .before .before .before .args in
     let p = c .before .before .before .before .before .before .pre in
-    let t = text (a .p) (now (a .held)) (now (a .heir)) (now (a .inquired)) (now (a .queued)) (now (a .list)) in
-    rw (line-set t (now (a .bytes)) (c .before .before .enum-told2 .given .1), ← c .before .before .before .before .meaning .ensures) (c .on-set .ensures (now (a .held)) (now (a .heir)) (now (a .inquired)) (now (a .queued)) (now (a .list)) (p .long) (rw (c .before .before .enum-told2 .given .1) at (p .fits)))
-
-same-length : tie.Need-same-length
-same-length c = search needs
+    let t = text (a .p) (now (a .tables)) (now (a .list)) in
+    rw (line-set t (now (a .bytes)) (c .before .before .enum-told2 .given .1), ← c .before .before .before .before .meaning .ensures) (c .on-set .ensures (now (a .tables)) (now (a .list)) (rw (c .before .before .enum-told2 .given .1) at (p .fits)))
 
 returns-3 : tie.Need-returns-3
 returns-3 c =
-    let a = c .before .before .before .before .before .before .before .before .before .before .before .before .args in
-    let t = text (a .p) (now (a .held)) (now (a .heir)) (now (a .inquired)) (now (a .queued)) (now (a .list)) in
-    rw (line-event t (now (a .bytes)) (c .before .before .before .before .before .before .before .before .enum-told3 .given .1), ← c .before .before .before .before .before .before .before .before .before .before .meaning .ensures) (c .before .on-event .ensures)
+    let a = c .before .before .before .before .before .before .before .before .args in
+    let t = text (a .p) (now (a .tables)) (now (a .list)) in
+    rw (line-event t (now (a .bytes)) (c .before .before .before .before .enum-told3 .given .1), ← c .before .before .before .before .before .before .meaning .ensures) (c .on-event .ensures)
 
 returns-4 : tie.Need-returns-4
 returns-4 c =
     let a = c .before .before .before .before .args in
-    let t = text (a .p) (now (a .held)) (now (a .heir)) (now (a .inquired)) (now (a .queued)) (now (a .list)) in
+    let t = text (a .p) (now (a .tables)) (now (a .list)) in
     (rw (line-over t (now (a .bytes)) (c .enum-told4 .given .1)) (record { known = refl; printed = nothing }), c .before .before .before .before .pre)
 
 pub line-spec : {M : Type 1} → statement M
@@ -82,6 +78,5 @@ line-spec =
     enum-told-4
     returns
     returns-2
-    same-length
     returns-3
     returns-4)

@@ -1,7 +1,7 @@
 -- `on_event`: an event, or 11.
 use denote.Ref.{now}
 use Rattle.player_text.specs.Player.{eventIn, onEvent}
-use Rattle.player_text.specs.Playing.{text}
+use Rattle.player_text.specs.Calls.{text}
 use Rattle.player_text.proofs.Heads.{stops}
 use borrow.Author.Needs.{needs}
 use Rattle.player_lines.proofs.on_event.Statement.{statement}
@@ -55,44 +55,35 @@ one-more-requires-3 c κs = search needs
 stop-requires-3 : tie.Need-stop-requires-3
 stop-requires-3 c κs = search needs
 
-same-length : tie.Need-same-length
-same-length c = search needs
-
 returns : tie.Need-returns
 unfolding eventIn onEvent
-returns c = rw (c .before .before .before .before .before .before .before .before .before .m .given .1) (c .before .play-event .ensures)
-
-same-length-2 : tie.Need-same-length-2
-same-length-2 c = search needs
+returns c = rw (c .before .before .before .before .before .m .given .1) (c .play-event .ensures)
 
 returns-2 : tie.Need-returns-2
 unfolding eventIn onEvent
-returns-2 c = rw (c .before .before .before .before .before .before .before .before .before .m2 .given .1) (c .before .play-event2 .ensures)
-
-same-length-3 : tie.Need-same-length-3
-same-length-3 c = search needs
+returns-2 c = rw (c .before .before .before .before .before .m2 .given .1) (c .play-event2 .ensures)
 
 returns-3 : tie.Need-returns-3
 unfolding eventIn onEvent
-returns-3 c = rw (c .before .before .before .before .before .before .before .before .before .m3 .given .1) (c .before .play-event3 .ensures)
+returns-3 c = rw (c .before .before .before .before .before .m3 .given .1) (c .play-event3 .ensures)
 
 returns-4 : tie.Need-returns-4
 unfolding eventIn onEvent
 returns-4 c =
     let a = c .before .before .before .before .before .before .args in
-    stops (a .p) (now (a .held)) (now (a .heir)) (now (a .inquired)) (now (a .queued)) (now (a .list)) (c .before .before .before .before .before .before .pre .0) (c .stop .result) 11 (c .before .one-more .result) (c .stop .ensures) (onEvent (text (a .p) (now (a .held)) (now (a .heir)) (now (a .inquired)) (now (a .queued)) (now (a .list))) (eventIn (a .m))) (rw (c .before .before .before .before .m4 .given .1, c .before .one-more .ensures))
+    stops (a .p) (now (a .tables)) (now (a .list)) (c .stop .result) 11 (c .before .one-more .result) (c .stop .ensures) (onEvent (text (a .p) (now (a .tables)) (now (a .list))) (eventIn (a .m))) (rw (c .before .before .before .before .m4 .given .1, c .before .one-more .ensures))
 
 returns-5 : tie.Need-returns-5
 unfolding eventIn onEvent
 returns-5 c =
     let a = c .before .before .before .before .before .before .args in
-    stops (a .p) (now (a .held)) (now (a .heir)) (now (a .inquired)) (now (a .queued)) (now (a .list)) (c .before .before .before .before .before .before .pre .0) (c .stop2 .result) 11 (c .before .one-more2 .result) (c .stop2 .ensures) (onEvent (text (a .p) (now (a .held)) (now (a .heir)) (now (a .inquired)) (now (a .queued)) (now (a .list))) (eventIn (a .m))) (rw (c .before .before .before .before .m5 .given .1, c .before .one-more2 .ensures))
+    stops (a .p) (now (a .tables)) (now (a .list)) (c .stop2 .result) 11 (c .before .one-more2 .result) (c .stop2 .ensures) (onEvent (text (a .p) (now (a .tables)) (now (a .list))) (eventIn (a .m))) (rw (c .before .before .before .before .m5 .given .1, c .before .one-more2 .ensures))
 
 returns-6 : tie.Need-returns-6
 unfolding eventIn onEvent
 returns-6 c =
     let a = c .before .before .before .before .before .args in
-    stops (a .p) (now (a .held)) (now (a .heir)) (now (a .inquired)) (now (a .queued)) (now (a .list)) (c .before .before .before .before .before .pre .0) (c .stop3 .result) 11 (c .before .one-more3 .result) (c .stop3 .ensures) (onEvent (text (a .p) (now (a .held)) (now (a .heir)) (now (a .inquired)) (now (a .queued)) (now (a .list))) (eventIn (a .m))) (rw (c .before .before .before .enum-told .given .1, c .before .one-more3 .ensures))
+    stops (a .p) (now (a .tables)) (now (a .list)) (c .stop3 .result) 11 (c .before .one-more3 .result) (c .stop3 .ensures) (onEvent (text (a .p) (now (a .tables)) (now (a .list))) (eventIn (a .m))) (rw (c .before .before .before .enum-told .given .1, c .before .one-more3 .ensures))
 
 pub on-event-spec : {M : Type 1} → statement M
 on-event-spec =
@@ -113,11 +104,8 @@ on-event-spec =
     enum-told
     one-more-requires-3
     stop-requires-3
-    same-length
     returns
-    same-length-2
     returns-2
-    same-length-3
     returns-3
     returns-4
     returns-5

@@ -5,7 +5,7 @@ use Rattle.model.specs.Setup.{setupCode}
 use Rattle.setup.specs.declared.Answer.{Answer}
 use Rattle.setup.specs.Answer.{setupAnswer}
 use Rattle.player_text.specs.Player.{allGiven}
-use Rattle.player_text.specs.Playing.{text}
+use Rattle.player_text.specs.Calls.{text}
 use Rattle.player_text.proofs.Heads.{stops, starts}
 use borrow.Author.Needs.{needs}
 use Rattle.player_text.proofs.all_given.Statement.{statement}
@@ -32,22 +32,22 @@ stop-requires c κs = search needs
 
 returns : tie.Need-returns
 unfolding allGiven setupAnswer
-returns c = λ held heir inquired queued rows long fits.
+returns c = λ ts rows fits.
     let a = c .before .before .before .before .before .before .before .before .args in
     let m = c .before .before .before .before .before .before .setup in
     let e : m .result .code ≡ setupCode (a .p .size) (a .t3) = ap (λ (x : Answer). x .code) (m .ensures) in
-    stops (a .p) held heir inquired queued rows long (c .stop .result) (m .result .code) (c .before .fault-line .result) (c .stop .ensures) (allGiven (text (a .p) held heir inquired queued rows) (a .t3)) (rw (c .before .fault-line .ensures, ← e, ne-eqb (m .result .code) 0 (c .before .before .before .before .if1 .taken)))
+    stops (a .p) ts rows (c .stop .result) (m .result .code) (c .before .fault-line .result) (c .stop .ensures) (allGiven (text (a .p) ts rows) (a .t3)) (rw (c .before .fault-line .ensures, ← e, ne-eqb (m .result .code) 0 (c .before .before .before .before .if1 .taken)))
 
 one-more-requires : tie.Need-one-more-requires
 one-more-requires c κs = search needs
 
 returns-2 : tie.Need-returns-2
 unfolding allGiven setupAnswer
-returns-2 c = λ held heir inquired queued rows long fits.
+returns-2 c = λ ts rows fits.
     let a = c .before .before .before .before .before .before .args in
     let m = c .before .before .before .before .setup in
     let e : setupCode (a .p .size) (a .t3) ≡ 0 = ap (λ (x : Answer). x .code) (sym (m .ensures)) ∙ c .before .before .if1 .left in
-    starts (a .p) held heir inquired queued rows long (fits .0) (c .one-more .result) (c .one-more .ensures) (a .t3) (m .result .rig) e (ap (λ (x : Answer). x .rig) (m .ensures) ∙ rw e)
+    starts (a .p) ts rows (fits .0) (c .one-more .result) (c .one-more .ensures) (a .t3) (m .result .rig) e (ap (λ (x : Answer). x .rig) (m .ensures) ∙ rw e)
 
 pub all-given-spec : {M : Type 1} → statement M
 all-given-spec =

@@ -4,7 +4,7 @@ use native.Mathlib.Numerals.{add-one}
 use borrow.Author.Tests.{le-ltb}
 use Rattle.model.specs.Tables.{put}
 use Rattle.player_text.specs.Player.{setIn, onSet}
-use Rattle.player_text.specs.Playing.{text}
+use Rattle.player_text.specs.Calls.{text}
 use Rattle.player_text.proofs.Lines.{no-set}
 use Rattle.player_text.proofs.Heads.{stops, takes-set}
 use borrow.Author.Needs.{needs}
@@ -25,9 +25,9 @@ stop-requires c κs = search needs
 
 returns : tie.Need-returns
 unfolding onSet setIn put
-returns c = λ held heir inquired queued rows long fits.
+returns c = λ ts rows fits.
     let a = c .before .before .before .before .args in
-    stops (a .p) held heir inquired queued rows long (c .stop .result) 11 (c .before .before .before .one-more .result) (c .stop .ensures) (onSet (text (a .p) held heir inquired queued rows) (setIn (a .m))) (rw (no-set (a .m) (c .before .before .match .keys2), c .before .before .before .one-more .ensures))
+    stops (a .p) ts rows (c .stop .result) 11 (c .before .before .before .one-more .result) (c .stop .ensures) (onSet (text (a .p) ts rows) (setIn (a .m))) (rw (no-set (a .m) (c .before .before .match .keys2), c .before .before .before .one-more .ensures))
 
 mul-sets : tie.Need-mul-sets
 mul-sets c = search needs
@@ -43,15 +43,15 @@ all-given-requires c κs = search needs
 
 returns-2 : tie.Need-returns-2
 unfolding onSet setIn put
-returns-2 c = λ held heir inquired queued rows long fits.
+returns-2 c = λ ts rows fits.
     let a = c .before .before .before .before .before .before .before .before .before .before .args in
-    rw (c .before .before .before .before .before .before .before .m .given .1, le-ltb (a .p .given + 1) (a .p .size) (c .before .before .if1 .taken), add-one) (c .all-given .ensures held heir inquired queued rows long fits)
+    rw (c .before .before .before .before .before .before .before .m .given .1, le-ltb (a .p .given + 1) (a .p .size) (c .before .before .if1 .taken), add-one) (c .all-given .ensures ts rows fits)
 
 returns-3 : tie.Need-returns-3
 unfolding onSet setIn put
-returns-3 c = λ held heir inquired queued rows long fits.
+returns-3 c = λ ts rows fits.
     let a = c .before .before .before .before .before .before .before .before .before .args in
-    rw (c .before .before .before .before .before .before .m .given .1) (takes-set (a .p) held heir inquired queued rows long (fits .0) (c .before .before .before .before .before .before .before .before .one-more .result) (c .before .before .before .before .before .before .before .before .one-more .ensures) (c .before .before .before .before .before .before .m .given .0 .0) (fits .1) (c .before .if1 .left))
+    rw (c .before .before .before .before .before .before .m .given .1) (takes-set (a .p) ts rows (fits .0) (c .before .before .before .before .before .before .before .before .one-more .result) (c .before .before .before .before .before .before .before .before .one-more .ensures) (c .before .before .before .before .before .before .m .given .0 .0) (fits .1) (c .before .if1 .left))
 
 pub on-set-spec : {M : Type 1} → statement M
 on-set-spec =

@@ -3,7 +3,7 @@ use borrow.Author.Tests.{le-leb, lt-leb}
 use Rattle.rig.specs.Limits.{siteLimit}
 use Rattle.model.specs.Setup.{sizeListed}
 use Rattle.player_text.specs.Player.{sizeIn, onSize}
-use Rattle.player_text.specs.Playing.{text}
+use Rattle.player_text.specs.Calls.{text}
 use Rattle.player_text.proofs.Lines.{no-size}
 use Rattle.player_text.proofs.Heads.{stops, takes-size}
 use borrow.Author.Needs.{needs}
@@ -23,33 +23,33 @@ stop-requires c κs = search needs
 
 returns : tie.Need-returns
 unfolding onSize sizeIn sizeListed
-returns c = λ held heir inquired queued rows long untouched.
+returns c = λ ts rows untouched.
     let a = c .before .before .before .before .args in
-    stops (a .p) held heir inquired queued rows long (c .stop .result) 11 (c .before .before .before .one-more .result) (c .stop .ensures) (onSize (text (a .p) held heir inquired queued rows) (sizeIn (a .m))) (rw (no-size (a .m) (c .before .before .match .keys2), c .before .before .before .one-more .ensures))
+    stops (a .p) ts rows (c .stop .result) 11 (c .before .before .before .one-more .result) (c .stop .ensures) (onSize (text (a .p) ts rows) (sizeIn (a .m))) (rw (no-size (a .m) (c .before .before .match .keys2), c .before .before .before .one-more .ensures))
 
 stop-requires-2 : tie.Need-stop-requires-2
 stop-requires-2 c κs = search needs
 
 returns-2 : tie.Need-returns-2
 unfolding onSize sizeIn sizeListed
-returns-2 c = λ held heir inquired queued rows long untouched.
+returns-2 c = λ ts rows untouched.
     let a = c .before .before .before .before .before .before .before .args in
-    stops (a .p) held heir inquired queued rows long (c .stop2 .result) 1 (c .before .before .before .before .before .before .one-more .result) (c .stop2 .ensures) (onSize (text (a .p) held heir inquired queued rows) (sizeIn (a .m))) (rw (c .before .before .before .before .m .given .1, lt-leb 1 (c .before .before .before .before .m .given .0 .0) (c .before .before .if1 .taken), c .before .before .before .before .before .before .one-more .ensures))
+    stops (a .p) ts rows (c .stop2 .result) 1 (c .before .before .before .before .before .before .one-more .result) (c .stop2 .ensures) (onSize (text (a .p) ts rows) (sizeIn (a .m))) (rw (c .before .before .before .before .m .given .1, lt-leb 1 (c .before .before .before .before .m .given .0 .0) (c .before .before .if1 .taken), c .before .before .before .before .before .before .one-more .ensures))
 
 stop-requires-3 : tie.Need-stop-requires-3
 stop-requires-3 c κs = search needs
 
 returns-3 : tie.Need-returns-3
 unfolding onSize sizeIn sizeListed
-returns-3 c = λ held heir inquired queued rows long untouched.
+returns-3 c = λ ts rows untouched.
     let a = c .before .before .before .before .before .before .before .before .args in
-    stops (a .p) held heir inquired queued rows long (c .stop3 .result) 1 (c .before .before .before .before .before .before .before .one-more .result) (c .stop3 .ensures) (onSize (text (a .p) held heir inquired queued rows) (sizeIn (a .m))) (rw (c .before .before .before .before .before .m .given .1, le-leb 1 (c .before .before .before .before .before .m .given .0 .0) (c .before .before .before .if1 .left), lt-leb (c .before .before .before .before .before .m .given .0 .0) siteLimit (c .before .before .if2 .taken), c .before .before .before .before .before .before .before .one-more .ensures))
+    stops (a .p) ts rows (c .stop3 .result) 1 (c .before .before .before .before .before .before .before .one-more .result) (c .stop3 .ensures) (onSize (text (a .p) ts rows) (sizeIn (a .m))) (rw (c .before .before .before .before .before .m .given .1, le-leb 1 (c .before .before .before .before .before .m .given .0 .0) (c .before .before .before .if1 .left), lt-leb (c .before .before .before .before .before .m .given .0 .0) siteLimit (c .before .before .if2 .taken), c .before .before .before .before .before .before .before .one-more .ensures))
 
 returns-4 : tie.Need-returns-4
 unfolding onSize sizeIn sizeListed
-returns-4 c = λ held heir inquired queued rows long untouched.
+returns-4 c = λ ts rows untouched.
     let a = c .before .before .before .before .before .before .before .before .args in
-    rw (c .before .before .before .before .before .m .given .1) (takes-size (a .p) held heir inquired queued rows long untouched (c .before .before .before .before .before .before .before .one-more .result) (c .before .before .before .before .before .before .before .one-more .ensures) (c .before .before .before .before .before .m .given .0 .0) (c .before .before .before .if1 .left) (c .before .before .if2 .left))
+    rw (c .before .before .before .before .before .m .given .1) (takes-size (a .p) ts rows untouched (c .before .before .before .before .before .before .before .one-more .result) (c .before .before .before .before .before .before .before .one-more .ensures) (c .before .before .before .before .before .m .given .0 .0) (c .before .before .before .if1 .left) (c .before .before .if2 .left))
 
 pub on-size-spec : {M : Type 1} → statement M
 on-size-spec =

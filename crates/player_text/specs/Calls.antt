@@ -2,13 +2,14 @@
 use Prim.Native.Nat.{ℕ, _≤_, _<_}
 use mathlib.Core.Path.{_≡_}
 use mathlib.Core.List.{List}
-use lib.ListN.{length, replicate}
-use Rattle.rig.specs.Limits.{siteLimit, messageLimit, blankTable}
+use lib.ListN.{replicate}
+use denote.Ref.{now}
+use Rattle.rig.specs.Limits.{siteLimit, messageLimit, blankTables}
 use Rattle.model.specs.Setup.{noRig}
-use Rattle.model.specs.Event.{Stored}
-use Rattle.model.specs.Run.{OfRun}
-use Rattle.list_rows.specs.Places.{cleared}
-use Rattle.event_storing.specs.Whole.{stored}
+use Rattle.model.specs.State.{Stored}
+use Rattle.list_rows.specs.Rows.{zeroRow, ZeroPast}
+use Rattle.list_rows.specs.State.{stored, Lent}
+use Rattle.event_rows.specs.Steps.{InRun}
 use Rattle.player_printing.specs.Printing.{Printed}
 use Rattle.player_text.specs.declared.Player.{Player}
 use Rattle.player_text.specs.declared.Said.{Said}
@@ -21,29 +22,24 @@ abbrev pub textOf : Player → Stored → Text
 textOf p s = record { stage = p .stage; line = p .line; step = p .step; size = p .size; given = p .given; sets = p .sets; state = s }
 
 -- with the tables and the list that it is lent
-abbrev pub text : Player → List (List ℕ) → List (List ℕ) → List (List ℕ) → List (List ℕ) → List (List ℕ) → Text
-text p held heir inquired queued rows = textOf p (stored (p .rig) held heir inquired queued rows (p .count))
+abbrev pub text : Player → List (List (List ℕ)) → List (List ℕ) → Text
+text p ts rows = textOf p (stored (p .rig) ts rows (p .count))
 
 -- before the first event: tables of zeros, and a list of zeros
-pub record Untouched (held heir inquired queued rows : List (List ℕ)) : Type 0 where
-  pub noneHeld : held ≡ blankTable
-  pub noHeir : heir ≡ blankTable
-  pub noneInquired : inquired ≡ blankTable
-  pub noneQueued : queued ≡ blankTable
-  pub noneUnderWay : cleared 0 rows ≡ rows
+pub record Untouched (ts : List (List (List ℕ))) (rows : List (List ℕ)) : Type 0 where
+  pub noneStored : ts ≡ blankTables
+  pub noneUnderWay : rows ≡ replicate messageLimit zeroRow
 
 -- what holds at each stage: N and the sets still to come; a state of a run
-abbrev pub HoldsAt : Stage → Player → List (List ℕ) → List (List ℕ) → List (List ℕ) → List (List ℕ) → List (List ℕ) → Type 0
-HoldsAt Size p held heir inquired queued rows = Untouched held heir inquired queued rows
-HoldsAt Sets p held heir inquired queued rows = Untouched held heir inquired queued rows × (p .size ≤ siteLimit) × (p .given < p .size)
-HoldsAt Events p held heir inquired queued rows =
-    OfRun (stored (p .rig) held heir inquired queued rows (p .count)) × (cleared (p .count) rows ≡ rows)
-HoldsAt Over p held heir inquired queued rows = Unit
+abbrev pub HoldsAt : Stage → Player → List (List (List ℕ)) → List (List ℕ) → Type 0
+HoldsAt Size p ts rows = Untouched ts rows
+HoldsAt Sets p ts rows = Untouched ts rows × (p .size ≤ siteLimit) × (p .given < p .size)
+HoldsAt Events p ts rows = InRun (stored (p .rig) ts rows (p .count)) × ZeroPast (p .count) rows
+HoldsAt Over p ts rows = Unit
 
 -- the player and what it is lent belong together, as its first call and every later one leave them
-pub record Playing (p : Player) (held heir inquired queued rows : List (List ℕ)) : Type 0 where
-  pub long : length rows ≡ messageLimit
-  pub fits : HoldsAt (p .stage) p held heir inquired queued rows
+pub record PlayerFits (p : Player) (ts : List (List (List ℕ))) (rows : List (List ℕ)) : Type 0 where
+  pub fits : HoldsAt (p .stage) p ts rows
 
 -- the player before its first line, and once the run has ended
 abbrev pub beginning : Player
@@ -53,17 +49,25 @@ abbrev pub over : Player → Player
 over p = record { stage = Over; line = p .line; step = p .step; size = p .size; given = p .given; sets = p .sets; rig = p .rig; count = p .count }
 
 -- the outcome's bytes stand on the page, n of them, and the outcome's text is what the player then knows
-pub record Spoke (o : Outcome) (next : Text) (page after : List ℕ) (n : ℕ) : Type 0 where
+pub record GivesOutcome (o : Outcome) (next : Text) (page after : List ℕ) (n : ℕ) : Type 0 where
   pub known : next ≡ o .next
   pub printed : Printed (o .said) page after n
+
+-- what a call is lent gives an outcome, and fits the next player
+abbrev pub Gives : Outcome → Said → Lent (List (List (List ℕ))) → Lent (List (List ℕ)) → Lent (List ℕ) → Type 0
+Gives o r ts rows page =
+    GivesOutcome o (text (r .player) (now (ts .exit)) (now (rows .exit))) (now (page .entry)) (now (page .exit)) (r .printed)
+    × PlayerFits (r .player) (now (ts .exit)) (now (rows .exit))
+
+-- what the player knows before a call
+abbrev pub before : Player → Lent (List (List (List ℕ))) → Lent (List (List ℕ)) → Text
+before p ts rows = text p (now (ts .entry)) (now (rows .entry))
 
 -- What a line does before the first event, when no table is touched: the outcome f, for whatever tables the player is lent at that stage.
 abbrev pub BeforeEvents : Stage → (Text → Outcome) → Player → List ℕ → List ℕ → Said → Type 0
 BeforeEvents stage f p page after r =
-    (held heir inquired queued rows : List (List ℕ)) →
-    length rows ≡ messageLimit → HoldsAt stage p held heir inquired queued rows →
-    Spoke (f (text p held heir inquired queued rows)) (text (r .player) held heir inquired queued rows) page after (r .printed)
-    × Playing (r .player) held heir inquired queued rows
+    (ts : List (List (List ℕ))) (rows : List (List ℕ)) → HoldsAt stage p ts rows →
+    GivesOutcome (f (text p ts rows)) (text (r .player) ts rows) page after (r .printed) × PlayerFits (r .player) ts rows
 
 -- What is printed at the end of the input, whatever the state of the rig: nothing of it is read.
 abbrev pub Ended : Player → List ℕ → List ℕ → List ℕ → ℕ → Type 0
