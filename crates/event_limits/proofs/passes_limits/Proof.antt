@@ -1,6 +1,7 @@
 -- `passes_limits`: the tests in their order.
 use mathlib.Core.Path.{sym, ap, _∙_}
 use mathlib.Core.Bool.{not}
+use native.Mathlib.Omega.{arith}
 use borrow.Author.Needs.{needs}
 use borrow.Author.Tests.{le-leb, lt-leb, not-true, not-false}
 use Rattle.rig.specs.Limits.{eventLimit}
@@ -11,7 +12,7 @@ use Rattle.event_limits.proofs.all_numbers.Reads as all-numbers-reads
 use Rattle.rig_reads.proofs.is_number.Reads as is-number-reads
 
 returns : tie.Need-returns
-returns c = rw (le-leb eventLimit (c .before .args .accepted) (c .if1 .taken))
+returns c = rw (le-leb eventLimit (c .before .args .accepted) (omega (arith, c .if1 .taken)))
 
 is-number-requires : tie.Need-is-number-requires
 is-number-requires c κs = search needs
