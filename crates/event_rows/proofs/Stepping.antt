@@ -132,8 +132,13 @@ module _ (g : Rig) (ts ts′ : List (List (List ℕ))) (rows rows′ : List (Lis
           let x = l .changes h in
           rw (named-same (in-range h), h) (λ j. record { code = l .code j; next = record { tables = next-tables j; list = x .1 j; count = x .0 j } })
 
-    pub stepped : _≡_ {A = Answer} (record { code = r .code; next = stored next ts′ rows′ (r .count) }) (played (stored g ts rows n) e)
+    stepped : _≡_ {A = Answer} (record { code = r .code; next = stored next ts′ rows′ (r .count) }) (played (stored g ts rows n) e)
     stepped = by-bool (eqb (o .code) 0) acceptance refusal
+
+    -- with the index and the number of events as they are computed
+    pub stepped-at : (j m : ℕ) → j ≡ i → m ≡ countedOn (g .accepted) (r .code)
+        → _≡_ {A = Answer} (record { code = r .code; next = stored (record { size = g .size; sets = g .sets; sites = set (g .sites) j (r .site); arbiters = set (g .arbiters) j (r .arbiter); accepted = m }) ts′ rows′ (r .count) }) (played (stored g ts rows n) e)
+    stepped-at j m p q = rw (p, q) stepped
 
 -- the next state of a run on a list of 1,024 entries
 again : (s : Stored) (e : Event) (a : Answer) → a ≡ played s e → InRun s → InRun (a .next)

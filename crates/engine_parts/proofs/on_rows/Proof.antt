@@ -1,6 +1,12 @@
 -- `on_rows`: 13, then the event.
+use mathlib.Core.Path.{_≡_, sym, ap}
+use mathlib.Core.Bool.{Bool, not, cond}
+use denote.Ref.{now}
 use borrow.Author.Needs.{needs}
 use borrow.Author.Tests.{eq-eqb, ne-eqb}
+use Rattle.rig.specs.Limits.{messageLimit}
+use Rattle.model.specs.Event.{answer, tested}
+use Rattle.list_rows.specs.State.{stored}
 use Rattle.engine_parts.specs.Parts.{judgedRows}
 use Rattle.engine_parts.proofs.on_rows.Statement.{statement}
 use Rattle.engine_parts.proofs.on_rows.Tie as tie
@@ -12,7 +18,11 @@ refused-requires c κs = search needs
 
 returns : tie.Need-returns
 unfolding judgedRows
-returns c = rw (c .refused .ensures, ne-eqb _ _ (c .before .if1 .taken))
+returns c =
+    let a = c .before .before .args in
+    let s = stored (a .rig) (now (a .tables)) (now (a .rows)) (a .count) in
+    let told : judgedRows (a .len) s (a .e) ≡ answer 13 s = ap (λ (b : Bool). cond (not b) (answer 13 s) (tested s (a .e))) (ne-eqb (a .len) messageLimit (c .before .if1 .taken)) in
+    rw (c .refused .ensures) (sym told)
 
 event-requires : tie.Need-event-requires
 event-requires c κs = search needs

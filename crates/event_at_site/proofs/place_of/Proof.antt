@@ -1,7 +1,9 @@
 -- `place_of`: a site of 1 to N, or none.
-use mathlib.Core.Path.{sym, _∙_}
+use mathlib.Core.Path.{_≡_, sym, _∙_}
+use mathlib.Core.Bool.{true}
 use native.Mathlib.Omega.{arith}
 use borrow.Author.Needs.{needs}
+use Rattle.model.specs.State.{inRange}
 use Rattle.model.proofs.Shaped.{within}
 use Rattle.event_at_site.proofs.place_of.Statement.{statement}
 use Rattle.event_at_site.proofs.place_of.Tie as tie
@@ -13,13 +15,13 @@ is-site-requires c κs = search needs
 sub-result : tie.Need-sub-result
 sub-result c =
     let a = c .before .before .args in
-    let w = within (a .size) (a .s) (sym (c .before .is-site .ensures) ∙ c .if1 .taken) in
+    let w = within _ (a .s) (sym (c .before .is-site .ensures) ∙ c .if1 .taken) in
     omega (arith, w .0)
 
 returns : tie.Need-returns
 returns c =
-    let e = sym (c .before .is-site .ensures) ∙ c .if1 .taken in
     let a = c .before .before .args in
+    let e : inRange (a .size) (a .s) ≡ true = sym (c .before .is-site .ensures) ∙ c .if1 .taken in
     let w = within (a .size) (a .s) e in
     (rw e, omega (arith, w .0, w .1))
 

@@ -3,12 +3,14 @@ use mathlib.Core.Path.{_≡_, refl, sym, _∙_}
 use mathlib.Core.List.{[]}
 use native.Mathlib.Omega.{arith}
 use denote.Ref.{now}
-use lib.ListN.{length, getD}
+use lib.ListN.{length, getD, take}
 use borrow.Author.Needs.{needs}
 use Rattle.rig.specs.Limits.{sentLimit}
 use Rattle.model.specs.Deliver.{delivered}
 use Rattle.model.specs.Event.{judged}
 use Rattle.list_rows.specs.Rows.{messageOf}
+use Rattle.list_search.specs.declared.Found.the-variants.{Nowhere}
+use Rattle.list_search.specs.Places.{foundIn}
 use Rattle.list_search.proofs.Places.{found-at}
 use Rattle.event_desks.specs.Parts.{deskAt}
 use Rattle.event_storing.specs.Leaves.{messagesIn}
@@ -41,7 +43,7 @@ returns : tie.Need-returns
 unfolding attemptAt judged
 returns c =
     let a = c .before .before .before .before .before .args in
-    let none = sym (c .before .before .before .first .ensures) ∙ c .before .enum-told .given .1 in
+    let none : foundIn (a .a) (a .b) (take (a .count) (now (a .list))) ≡ Nowhere = sym (c .before .before .before .first .ensures) ∙ c .before .enum-told .given .1 in
     rw (none, c .refused .ensures) (left-alone (now (a .tables)) _ (now (a .list)) _ (a .b) (a .count) 7 (a .size) (a .set) (a .site) (a .arbiter) (messagesIn (a .count) (now (a .list))) refl refl refl (c .before .before .before .before .before .pre .1 .zeros))
 
 desk-requires : tie.Need-desk-requires

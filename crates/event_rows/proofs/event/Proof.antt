@@ -1,8 +1,10 @@
 -- `event`: 10, or the event played.
-use mathlib.Core.Path.{sym, _∙_}
+use mathlib.Core.Path.{_≡_, sym, _∙_}
+use denote.Ref.{now}
 use borrow.Author.Tests.{not-true, not-false}
 use borrow.Author.Needs.{needs}
-use Rattle.model.specs.Event.{tested}
+use Rattle.model.specs.Event.{answer, tested}
+use Rattle.list_rows.specs.State.{stored}
 use Rattle.event_rows.proofs.event.Statement.{statement}
 use Rattle.event_rows.proofs.event.Tie as tie
 use Rattle.event_rows.proofs.step.Reads as step-reads
@@ -17,7 +19,11 @@ refused-requires c κs = search needs
 
 returns : tie.Need-returns
 unfolding tested
-returns c = rw (c .refused .ensures, sym (c .before .before .well-shaped .ensures) ∙ not-true _ (c .before .if1 .taken))
+returns c =
+    let a = c .before .before .before .before .before .args in
+    let s = stored (a .rig) (now (a .tables)) (now (a .list)) (a .count) in
+    let told : tested s (a .e) ≡ answer 10 s = rw (sym (c .before .before .well-shaped .ensures) ∙ not-true _ (c .before .if1 .taken)) in
+    rw (c .refused .ensures) (sym told)
 
 step-requires : tie.Need-step-requires
 step-requires c κs = (sym (c .before .before .before .before .well-shaped .ensures) ∙ not-false _ (c .before .before .before .if1 .left), c .before .before .before .before .before .before .before .pre)

@@ -1,12 +1,13 @@
 -- `step`: the parts of one site, and where they are stored.
 use mathlib.Core.Path.{_≡_}
+use native.Mathlib.Omega.{arith}
 use denote.Ref.{now}
 use borrow.Author.Needs.{needs}
 use Rattle.model.specs.Event.{actor}
 use Rattle.list_rows.specs.State.{stored}
 use Rattle.event_at_site.specs.Places.{placeOf}
 use Rattle.event_rows.proofs.Ready.{ready, size-high, accepted-high}
-use Rattle.event_rows.proofs.Stepping.{stepped, steps}
+use Rattle.event_rows.proofs.Stepping.{stepped-at, steps}
 use Rattle.event_rows.proofs.step.Statement.{statement}
 use Rattle.event_rows.proofs.step.Tie as tie
 use Rattle.event_at_site.proofs.actor.Reads as actor-reads
@@ -20,7 +21,8 @@ actor-requires c κs = search needs
 place-of-requires : tie.Need-place-of-requires
 place-of-requires c κs =
     let a = c .before .args in
-    size-high (a .t1) (now (a .tables)) 0 (now (a .list)) (a .count) (c .before .pre .0)
+    let high = size-high (a .t1) (now (a .tables)) 0 (now (a .list)) (a .count) (c .before .pre .0) in
+    omega (arith, high)
 
 mul-site : tie.Need-mul-site
 mul-site c = search needs
@@ -44,7 +46,8 @@ step-at-requires : tie.Need-step-at-requires
 step-at-requires c κs =
     let a = c .before .before .before .before .before .before .before .before .args in
     let p = c .before .before .before .before .before .before .before .before .pre in
-    rw (c .before .before .before .before .before .before .place-of .ensures .0, c .before .before .before .before .before .before .before .actor .ensures) (ready (a .t1) (now (a .tables)) (actor (a .e)) (now (a .list)) (a .count) (p .0) (p .1))
+    let i : c .before .before .before .before .before .before .place-of .result ≡ placeOf (a .t1 .size) (actor (a .e)) = rw (c .before .before .before .before .before .before .before .actor .ensures) at (c .before .before .before .before .before .before .place-of .ensures .0) in
+    rw i (ready (a .t1) (now (a .tables)) (actor (a .e)) (now (a .list)) (a .count) (p .0) (p .1))
 
 mul-site-after : tie.Need-mul-site-after
 mul-site-after c = search needs
@@ -69,7 +72,7 @@ returns c =
     let s = stored (a .t1) (now (a .tables)) (now (a .list)) (a .count) in
     let i : c .before .before .before .before .before .before .before .before .before .before .place-of .result ≡ placeOf (a .t1 .size) (actor (a .e)) = rw (c .before .before .before .before .before .before .before .before .before .before .before .actor .ensures) at (c .before .before .before .before .before .before .before .before .before .before .place-of .ensures .0) in
     let l = rw i at (c .before .before .before .step-at .ensures) in
-    (steps s (a .e) _ (rw (i, c .counted-on .ensures) (stepped (a .t1) (now (a .tables)) _ (now (a .list)) _ (a .count) (a .e) (c .before .before .before .step-at .result) l)), l .zeros)
+    (steps s (a .e) _ (stepped-at (a .t1) (now (a .tables)) _ (now (a .list)) _ (a .count) (a .e) (c .before .before .before .step-at .result) l _ _ i (c .counted-on .ensures)), l .zeros)
 
 pub step-spec : {M : Type 1} → statement M
 step-spec =
