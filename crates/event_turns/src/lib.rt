@@ -14,9 +14,9 @@ use rig_reads::is_inside;
 use rig_reads::is_resting;
 ghost use mathlib.Core.Path.{_≡_};
 ghost use mathlib.Core.Bool.{true};
-ghost use Prim.Native.Nat.{_*_, _≤_};
+ghost use Prim.Native.Nat.{_≤_};
 ghost use lib.ListN.{length};
-ghost use Rattle.rig.specs.Limits.{siteLimit};
+ghost use Rattle.rig.specs.Limits.{siteLimit, sentLimit};
 ghost use Rattle.model.specs.State.{inRange};
 ghost use Rattle.model.specs.Event.{attempt, judged};
 ghost use Rattle.event_effects.specs.Effects.{CarriesOut};
@@ -43,7 +43,7 @@ fn turn_code(asks: bool, site: Site) -> u64
 
 // The ask's rule, or the leave's.
 fn turn_rule(asks: bool, d: Desk, out: &mut [Row]) -> Acted
-    requires { ⌜ (d .size ≤ siteLimit) × NumbersFit d × (2 * siteLimit ≤ length (now out)) ⌝ }
+    requires { ⌜ (d .size ≤ siteLimit) × NumbersFit d × (sentLimit ≤ length (now out)) ⌝ }
     ensures { λ r. ⌜ CarriesOut (turnEffect asks d) 0 (now (out .entry)) (now (out .exit)) r ⌝ }
 {
     if asks {

@@ -1,5 +1,5 @@
 -- Document 01, "Sizes of a rig".
-use Prim.Native.Nat.{ℕ, _≤_}
+use Prim.Native.Nat.{ℕ, _*_, _≤_}
 use mathlib.Core.List.{List}
 use lib.ListN.{replicate}
 
@@ -23,6 +23,10 @@ eventLimit = 1_000_000
 -- "Clocks, sequence and grant numbers: 0 to 2,000,000."
 abbrev pub numberLimit : ℕ
 numberLimit = 2_000_000
+
+-- the messages that one event may send: at most two for each site
+abbrev pub sentLimit : ℕ
+sentLimit = 2 * siteLimit
 
 -- a row of a table: an entry for each site or arbiter
 abbrev pub blankRow : List ℕ

@@ -5,6 +5,7 @@ use native.Mathlib.Omega.{arith}
 use denote.Ref.{now}
 use lib.ListN.{length, getD, take}
 use borrow.Author.Needs.{needs}
+use Rattle.rig.specs.Limits.{sentLimit}
 use Rattle.model.specs.Deliver.{delivered}
 use Rattle.model.specs.Event.{judged}
 use Rattle.list_rows.specs.Rows.{messageOf}
@@ -87,7 +88,7 @@ conclude-requires c κs =
     let found = sym (c .before .before .before .before .before .before .before .before .before .before .before .before .before .first .ensures) ∙ c .before .before .before .before .before .before .before .before .before .before .before .place .given .1 in
     let f = found-at (a .a) (a .b) (a .count) (now (a .list)) place found in
     let fits = carried-fits (c .before .before .before .before .deliver .ensures) in
-    let long : length (c .before .before .before .before .deliver .last .1 .1 .0) ≡ 62 = search needs in
+    let long : length (c .before .before .before .before .deliver .last .1 .1 .0) ≡ sentLimit = search needs in
     (site-number (p .1) (p .0), omega (arith, f .0), p .1 .few, fits, omega (arith, fits), p .1 .zeros)
 
 returns-2 : tie.Need-returns-2

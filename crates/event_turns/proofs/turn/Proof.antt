@@ -5,6 +5,7 @@ use denote.Ref.{now}
 use lib.ListN.{length}
 use borrow.Author.Tests.{ne-eqb}
 use borrow.Author.Needs.{needs}
+use Rattle.rig.specs.Limits.{sentLimit}
 use Rattle.event_desks.specs.Parts.{deskAt}
 use Rattle.event_storing.specs.Leaves.{messagesIn}
 use Rattle.event_storing.proofs.Leaving.{left-alone}
@@ -47,7 +48,7 @@ conclude-requires : tie.Need-conclude-requires
 conclude-requires c κs =
     let p = c .before .before .before .before .before .before .before .before .before .before .pre in
     let fits = carried-fits (c .before .before .before .before .turn-rule .ensures) in
-    let long : length (c .before .before .before .before .turn-rule .last .1 .1 .0) ≡ 62 = search needs in
+    let long : length (c .before .before .before .before .turn-rule .last .1 .1 .0) ≡ sentLimit = search needs in
     (site-number (p .1) (p .0), omega arith, p .1 .few, fits, omega (arith, fits), p .1 .zeros)
 
 returns-2 : tie.Need-returns-2

@@ -1,4 +1,4 @@
--- `tables::print_members` is safe and ends. The loop's invariant: m is at most 64.
+-- `print_members` is safe and ends. The loop's invariant: m is at most 64.
 use Prim.Native.Nat.{_≤_, _-_}
 use borrow.Author.Needs.{needs}
 use Rattle.print_families.proofs.print_members.Statement.{statement}

@@ -1,4 +1,4 @@
--- `tables::print_sets` is safe and ends. The loop's invariant: i is at most 31.
+-- `print_sets` is safe and ends. The loop's invariant: i is at most 31.
 use Prim.Native.Nat.{_≤_, _-_}
 use borrow.Author.Needs.{needs}
 use Rattle.print_families.proofs.print_sets.Statement.{statement}
