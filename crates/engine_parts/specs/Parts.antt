@@ -31,14 +31,14 @@ readOf count len = cond (not (eqb len messageLimit)) 0 (cond (ltb messageLimit c
 abbrev pub blankRows : List (List ℕ)
 blankRows = replicate messageLimit zeroRow
 
--- an event on a state in rows, where the list has that length
+-- an event on a state in rows, read from a lent list of length len
 unfoldable pub judgedRows : ℕ → Stored → Event → Answer
 judgedRows len s e = cond (not (eqb len messageLimit)) (answer 13 s) (tested s e)
 
 -- the place from which an event changes the list
-abbrev pub placeOf : ℕ → Found → ℕ
-placeOf count (At place) = place
-placeOf count Nowhere = count
+abbrev pub placeFound : ℕ → Found → ℕ
+placeFound count (At place) = place
+placeFound count Nowhere = count
 
 abbrev pub changedFrom : ℕ → Found → ℕ → ℕ → ℕ
-changedFrom code found count len = cond (not (eqb code 0)) len (placeOf count found)
+changedFrom code found count len = cond (not (eqb code 0)) len (placeFound count found)

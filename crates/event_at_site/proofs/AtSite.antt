@@ -6,7 +6,8 @@ use mathlib.Core.List.{List}
 use Rattle.rig.specs.declared.Desk.{Desk}
 use Rattle.rig.specs.declared.Event.{Event}
 use Rattle.rig.specs.declared.Message.{Message}
-use Rattle.model.specs.Event.{sitesNamed, outcome, attempt, judged, eventAt}
+use Rattle.model.specs.Event.{sitesNamed, refused, outcome, attempt, judged, eventAt}
+use Rattle.event_storing.specs.Outbox.{attempted}
 
 module _ (accepted : ℕ) (d : Desk) (ms : List Message) (e : Event) where
   pub unnamed : sitesNamed (d .size) e ≡ false → eventAt accepted d ms e ≡ outcome 4 d ms
@@ -16,3 +17,12 @@ module _ (accepted : ℕ) (d : Desk) (ms : List Message) (e : Event) where
   pub named : sitesNamed (d .size) e ≡ true → eventAt accepted d ms e ≡ judged accepted d ms (attempt d ms e)
   unfolding eventAt
   named h = rw h
+
+module _ (d : Desk) (ms : List Message) (e : Event) where
+  pub unnamed-attempt : sitesNamed (d .size) e ≡ false → attempted d ms e ≡ refused 4
+  unfolding attempted
+  unnamed-attempt h = rw h
+
+  pub named-attempt : sitesNamed (d .size) e ≡ true → attempted d ms e ≡ attempt d ms e
+  unfolding attempted
+  named-attempt h = rw h

@@ -1,4 +1,4 @@
--- Where the parts of an event's site stand in a rig, and how its events are counted.
+-- Where the parts of an event's site stand in a rig, and how the rig's accepted events are counted.
 use Prim.Native.Nat.{ℕ, _+_, _-_}
 use mathlib.Core.Bool.{cond}
 use lib.Dec.{eqb}

@@ -15,6 +15,7 @@ ghost use Rattle.rig.specs.Limits.{siteLimit, eventLimit};
 ghost use Rattle.model.specs.Event.{actor, sitesNamed, eventAt};
 ghost use Rattle.event_desks.specs.Parts.{deskAt};
 ghost use Rattle.event_storing.specs.Leaves.{Leaves, messagesIn};
+ghost use Rattle.event_storing.specs.Outbox.{attempted, Sends};
 ghost use Rattle.event_storing.specs.Needs.{SiteReady};
 ghost use Rattle.event_at_site.specs.Places.{placeOf, countedOn};
 
@@ -80,7 +81,8 @@ pub fn step_at(
     e: Event,
 ) -> Done
     requires { ⌜ SiteReady (deskAt size (actor e) set site arbiter (now tables)) count (now list) ⌝ }
-    ensures { λ r. ⌜ Leaves (eventAt accepted (deskAt size (actor e) set site arbiter (now (tables .entry))) (messagesIn count (now (list .entry))) e) (actor e) count tables list r ⌝ }
+    ensures { λ r. ⌜ Leaves (eventAt accepted (deskAt size (actor e) set site arbiter (now (tables .entry))) (messagesIn count (now (list .entry))) e) (actor e) count tables list r
+        × Sends (attempted (deskAt size (actor e) set site arbiter (now (tables .entry))) (messagesIn count (now (list .entry))) e) out ⌝ }
 {
     if !sites_named(size, e) {
         return Done::refused(4, site, arbiter, count);

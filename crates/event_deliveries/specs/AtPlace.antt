@@ -17,6 +17,9 @@ unfoldable pub attemptAt : Desk → List Message → Found → Attempt
 attemptAt d ms (At place) = possible (delivered d (getD ms place blankMessage)) (take place ms ++ drop (suc place) ms)
 attemptAt d ms Nowhere = refused 7
 
--- the outcome of a delivery from a to b, of the first n rows of a list, by the place that the search finds
+-- a delivery from a to b, of the first n rows of a list, by the place that the search finds; and its outcome
+abbrev pub attemptFrom : ℕ → ℕ → Desk → ℕ → List (List ℕ) → Attempt
+attemptFrom a b d n rows = attemptAt d (messagesIn n rows) (foundIn a b (take n rows))
+
 abbrev pub deliveredFrom : ℕ → ℕ → ℕ → Desk → ℕ → List (List ℕ) → Outcome
-deliveredFrom a b accepted d n rows = judged accepted d (messagesIn n rows) (attemptAt d (messagesIn n rows) (foundIn a b (take n rows)))
+deliveredFrom a b accepted d n rows = judged accepted d (messagesIn n rows) (attemptFrom a b d n rows)

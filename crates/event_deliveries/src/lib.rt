@@ -15,8 +15,9 @@ ghost use mathlib.Core.Bool.{true};
 ghost use Rattle.model.specs.State.{inRange};
 ghost use Rattle.event_desks.specs.Parts.{deskAt};
 ghost use Rattle.event_storing.specs.Leaves.{Leaves};
+ghost use Rattle.event_storing.specs.Outbox.{Sends};
 ghost use Rattle.event_storing.specs.Needs.{SiteReady};
-ghost use Rattle.event_deliveries.specs.AtPlace.{deliveredFrom};
+ghost use Rattle.event_deliveries.specs.AtPlace.{attemptFrom, deliveredFrom};
 
 // An inner call: the first message from a to b is delivered, by the case of `Found`.
 pub fn deliver(
@@ -33,7 +34,8 @@ pub fn deliver(
     b: u64,
 ) -> Done
     requires { ⌜ (inRange size b ≡ true) × SiteReady (deskAt size b set site arbiter (now tables)) count (now list) ⌝ }
-    ensures { λ r. ⌜ Leaves (deliveredFrom a b accepted (deskAt size b set site arbiter (now (tables .entry))) count (now (list .entry))) b count tables list r ⌝ }
+    ensures { λ r. ⌜ Leaves (deliveredFrom a b accepted (deskAt size b set site arbiter (now (tables .entry))) count (now (list .entry))) b count tables list r
+        × Sends (attemptFrom a b (deskAt size b set site arbiter (now (tables .entry))) count (now (list .entry))) out ⌝ }
 {
     let Found::At(place) = first(list, count, a, b) else {
         return Done::refused(7, site, arbiter, count);

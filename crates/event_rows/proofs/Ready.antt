@@ -22,7 +22,7 @@ use Rattle.list_rows.specs.Rows.{messageOf, ZeroPast}
 use Rattle.list_rows.specs.State.{stored}
 use Rattle.event_desks.specs.Parts.{deskAt}
 use Rattle.event_storing.specs.Leaves.{messagesIn}
-use Rattle.event_storing.specs.Needs.{NumbersFit, NamesSites, SiteReady}
+use Rattle.event_storing.specs.Needs.{NumbersInRange, NamesSites, SiteReady}
 use Rattle.event_at_site.specs.Places.{placeOf}
 
 -- what is under way, of a list in rows
@@ -46,7 +46,7 @@ module _ (g : Rig) (ts : List (List (List ℕ))) (k : ℕ) where
     sh : Shaped (stored g ts rows n)
     sh = shaped (stored g ts rows n) w
 
-    numbers : inRange (g .size) k ≡ true → NumbersFit (deskFrom g ts k (placeOf (g .size) k))
+    numbers : inRange (g .size) k ≡ true → NumbersInRange (deskFrom g ts k (placeOf (g .size) k))
     unfolding deskOf cell
     numbers e =
         let s = stored g ts rows n in

@@ -17,7 +17,7 @@ use Rattle.rig.specs.Limits.{HELD, HEIR, INQUIRED, QUEUED, messageLimit}
 use Rattle.model.specs.Tables.{put}
 use Rattle.model.specs.Setup.{restingSite, freeArbiter}
 use Rattle.model.specs.State.{Stored, underWay, inRange, tables, withDesk, withAccepted, deskOf}
-use Rattle.model.specs.Event.{actor, sitesNamed, Attempt, refused, possible, attempt, effectCode, Outcome, outcome, judged, eventAt, Answer, answer, accepted, settled, played, tested, event}
+use Rattle.model.specs.Event.{actor, sitesNamed, Attempt, refused, possible, attempt, effectCode, Outcome, outcome, judged, eventAt, Answer, answer, acceptedState, settled, played, tested, event}
 use Rattle.model.specs.Shape.{wellShaped}
 use Rattle.model.specs.Run.{OfRun}
 use Rattle.model.proofs.Tables.{put-write, put-self}
@@ -30,7 +30,8 @@ use Rattle.event_desks.specs.Parts.{deskAt, withRows}
 use Rattle.event_storing.specs.declared.Done.{Done}
 use Rattle.event_storing.specs.Leaves.{Left, messagesIn}
 use Rattle.event_at_site.specs.Places.{placeOf, countedOn}
-use Rattle.event_rows.specs.Steps.{InRun, Steps}
+use Rattle.event_storing.specs.Outbox.{attempted}
+use Rattle.event_rows.specs.Steps.{InRun, Steps, attemptOn}
 use Rattle.event_rows.proofs.Ready.{under-way, deskFrom, desk-of}
 
 -- A refusal leaves the desk as it came.
@@ -50,6 +51,12 @@ unfolding actor sitesNamed
 none-named n (Ask k) h = h
 none-named n (Leave k) h = h
 none-named n (Deliver a b) h = and-second (inRange n a) (inRange n b) h
+
+-- the attempt at the parts that stand at the index is the one at the site's desk
+pub same-attempt : (g : Rig) (ts : List (List (List ℕ))) (rows : List (List ℕ)) (n : ℕ) (e : Event) → attemptOn (stored g ts rows n) e ≡ attempted (deskFrom g ts (actor e) (placeOf (g .size) (actor e))) (messagesIn n rows) e
+unfolding attempted deskOf
+same-attempt g ts rows n e =
+    by-bool (inRange (g .size) (actor e)) (λ h. rw (desk-of g ts (actor e) h, under-way n rows)) (λ h. rw (none-named (g .size) e h))
 
 module _ (g : Rig) (ts ts′ : List (List (List ℕ))) (rows rows′ : List (List ℕ)) (n : ℕ) (e : Event) (r : Done) where
   abbrev k : ℕ
@@ -127,7 +134,7 @@ module _ (g : Rig) (ts ts′ : List (List (List ℕ))) (rows rows′ : List (Lis
       next-tables = l .rows next ∙ ap (λ (x : Rig). withRows (tables x ts) k (o .desk)) next-rig
 
       acceptance : _≡_ {A = Answer} (record { code = r .code; next = stored next ts′ rows′ (r .count) }) (played (stored g ts rows n) e)
-      unfolding played settled accepted
+      unfolding played settled acceptedState
       acceptance =
           let x = l .changes h in
           rw (named-same (in-range h), h) (λ j. record { code = l .code j; next = record { tables = next-tables j; list = x .1 j; count = x .0 j } })

@@ -1,10 +1,10 @@
 -- What a rule's call carried out, with nothing sent before, is its effect; and the messages that stay.
 use Prim.Native.Nat.{ℕ, _≤_}
-use mathlib.Core.Path.{_≡_, ap, _∙_}
+use mathlib.Core.Path.{_≡_, sym, ap, _∙_}
 use mathlib.Core.Bool.{true}
 use mathlib.Core.List.{List, map}
 use native.Mathlib.Omega.{arith}
-use lib.ListN.{length, take, length-map, length-take}
+use lib.ListN.{length, take, length-map, length-take, take-append-drop}
 use Rattle.rig.specs.declared.Desk.{Desk}
 use Rattle.rig.specs.declared.Message.{Message}
 use Rattle.rig.specs.Limits.{SiteNumber}
@@ -18,6 +18,7 @@ use Rattle.list_exchange.proofs.Zeros.{without-none}
 use Rattle.event_effects.specs.declared.Acted.{Acted}
 use Rattle.event_effects.specs.Effects.{CarriesOut}
 use Rattle.event_storing.specs.Leaves.{messagesIn, effectOf, staying}
+use Rattle.event_storing.specs.Outbox.{outboxAfter}
 use Rattle.event_storing.specs.Needs.{SiteReady}
 
 module _ {e : Effect} {rows after : List (List ℕ)} {a : Acted} (d : CarriesOut e 0 rows after a) where
@@ -30,6 +31,13 @@ module _ {e : Effect} {rows after : List (List ℕ)} {a : Acted} (d : CarriesOut
       let m = length-take (a .count) after in
       let n = d .count in
       omega arith
+
+  pub carried-outbox : (rest : List Message) → after ≡ outboxAfter (possible e rest) rows
+  unfolding outboxAfter
+  carried-outbox rest =
+      let n = d .count in
+      let m : a .count ≡ length (e .sent) = omega arith in
+      sym (take-append-drop (a .count) after) ∙ rw (d .sent, d .rest, m)
 
 -- where none is taken off, all stay
 pub all-stay : (n : ℕ) (rows : List (List ℕ)) → staying n n rows ≡ messagesIn n rows

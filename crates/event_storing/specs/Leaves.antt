@@ -18,6 +18,7 @@ use Rattle.event_effects.specs.declared.Acted.{Acted}
 use Rattle.event_desks.specs.Parts.{RowsStored}
 use Rattle.event_storing.specs.declared.Done.{Done}
 
+-- "Nothing of the state or a lent buffer changes then": the code, and what came
 abbrev pub refused : ℕ → Site → Arbiter → ℕ → Done
 refused code s a n = record { code = code; site = s; arbiter = a; count = n }
 

@@ -16,7 +16,7 @@ use Rattle.list_rows.specs.Rows.{ZeroPast}
 use Rattle.event_storing.specs.Leaves.{messagesIn}
 
 -- the numbers of a desk are in their range, so that one more fits its type
-pub record NumbersFit (d : Desk) : Type 0 where
+pub record NumbersInRange (d : Desk) : Type 0 where
   pub clock : d .site .clock ≤ numberLimit
   pub grant : d .arbiter .grant ≤ numberLimit
   pub held : (j : ℕ) → SiteNumber j → heldFor d j ≤ numberLimit
@@ -30,7 +30,7 @@ pub record NamesSites (m : Message) : Type 0 where
 -- the desk of an event's site, and the first n rows of the list, with zeros behind them
 pub record SiteReady (d : Desk) (n : ℕ) (rows : List (List ℕ)) : Type 0 where
   pub size : d .size ≤ siteLimit
-  pub numbers : inRange (d .size) (d .number) ≡ true → NumbersFit d
+  pub numbers : inRange (d .size) (d .number) ≡ true → NumbersInRange d
   pub few : n ≤ messageLimit
   pub zeros : ZeroPast n rows
   pub messages : (a b : ℕ) (m : Message) → first (between a b) (messagesIn n rows) ≡ some m → NamesSites m

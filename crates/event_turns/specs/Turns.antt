@@ -11,7 +11,7 @@ use Rattle.model.specs.State.{isResting, isInside}
 use Rattle.model.specs.Desk.{Effect}
 use Rattle.model.specs.Ask.{asked}
 use Rattle.model.specs.Leave.{left}
-use Rattle.model.specs.Event.{Outcome, attempt, judged}
+use Rattle.model.specs.Event.{Attempt, Outcome, attempt, judged}
 
 -- "5 for an ask by a site not at rest, 6 for a leave by one not inside"
 abbrev pub turnCode : Bool → Mode → ℕ
@@ -26,6 +26,9 @@ abbrev pub turnEvent : Bool → ℕ → Event
 turnEvent true s = Ask s
 turnEvent false s = Leave s
 
--- the outcome of the ask or the leave of the desk's site
+-- the ask or the leave of the desk's site, and its outcome
+abbrev pub turnAttempt : Bool → Desk → List Message → Attempt
+turnAttempt asks d ms = attempt d ms (turnEvent asks (d .number))
+
 abbrev pub turnOf : Bool → ℕ → Desk → List Message → Outcome
-turnOf asks accepted d ms = judged accepted d ms (attempt d ms (turnEvent asks (d .number)))
+turnOf asks accepted d ms = judged accepted d ms (turnAttempt asks d ms)

@@ -22,8 +22,9 @@ ghost use Rattle.model.specs.Event.{attempt, judged};
 ghost use Rattle.event_effects.specs.Effects.{CarriesOut};
 ghost use Rattle.event_desks.specs.Parts.{deskAt};
 ghost use Rattle.event_storing.specs.Leaves.{Leaves, messagesIn};
-ghost use Rattle.event_storing.specs.Needs.{NumbersFit, SiteReady};
-ghost use Rattle.event_turns.specs.Turns.{turnCode, turnEffect, turnOf};
+ghost use Rattle.event_storing.specs.Outbox.{Sends};
+ghost use Rattle.event_storing.specs.Needs.{NumbersInRange, SiteReady};
+ghost use Rattle.event_turns.specs.Turns.{turnCode, turnEffect, turnAttempt, turnOf};
 
 // 5 for an ask by a site not at rest, 6 for a leave by one not inside, else 0.
 fn turn_code(asks: bool, site: Site) -> u64
@@ -43,7 +44,7 @@ fn turn_code(asks: bool, site: Site) -> u64
 
 // The ask's rule, or the leave's.
 fn turn_rule(asks: bool, d: Desk, out: &mut [Row]) -> Acted
-    requires { ⌜ (d .size ≤ siteLimit) × NumbersFit d × (sentLimit ≤ length (now out)) ⌝ }
+    requires { ⌜ (d .size ≤ siteLimit) × NumbersInRange d × (sentLimit ≤ length (now out)) ⌝ }
     ensures { λ r. ⌜ CarriesOut (turnEffect asks d) 0 (now (out .entry)) (now (out .exit)) r ⌝ }
 {
     if asks {
@@ -67,7 +68,8 @@ pub fn turn(
     out: &mut Outbox,
 ) -> Done
     requires { ⌜ (inRange size s ≡ true) × SiteReady (deskAt size s set site arbiter (now tables)) count (now list) ⌝ }
-    ensures { λ r. ⌜ Leaves (turnOf asks accepted (deskAt size s set site arbiter (now (tables .entry))) (messagesIn count (now (list .entry)))) s count tables list r ⌝ }
+    ensures { λ r. ⌜ Leaves (turnOf asks accepted (deskAt size s set site arbiter (now (tables .entry))) (messagesIn count (now (list .entry)))) s count tables list r
+        × Sends (turnAttempt asks (deskAt size s set site arbiter (now (tables .entry))) (messagesIn count (now (list .entry)))) out ⌝ }
 {
     let code = turn_code(asks, site);
     if code != 0 {

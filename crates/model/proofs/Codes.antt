@@ -19,7 +19,7 @@ use Rattle.rig.specs.Limits.{messageLimit, eventLimit}
 use Rattle.model.specs.State.{Stored, underWay, isResting, isInside, deskOf}
 use Rattle.model.specs.Deliver.{between}
 use Rattle.model.specs.Shape.{wellShaped}
-use Rattle.model.specs.Event.{actor, sitesNamed, Attempt, refused, possible, takenOff, attempt, numbersFit, limitCode, effectCode, Outcome, padded, accepted, judged, eventAt, settled, played, tested, event}
+use Rattle.model.specs.Event.{actor, sitesNamed, Attempt, refused, possible, takenOff, attempt, numbersFit, limitCode, effectCode, Outcome, padded, acceptedState, judged, eventAt, settled, played, tested, event}
 use Rattle.model.specs.Run.{run}
 use Rattle.model.proofs.Reached.{room}
 
@@ -115,7 +115,7 @@ module _ (s : Stored) where
   -- The list keeps its length.
 
   pub event-long : (e : Event) → length (s .list) ≡ messageLimit → length (event s e .next .list) ≡ messageLimit
-  unfolding event tested played settled accepted
+  unfolding event tested played settled acceptedState
   event-long e long =
       let few : length (underWay s) ≤ messageLimit = rw (length-take (s .count) (s .list)) (omega arith) in
       by-bool (eqb (length (s .list)) messageLimit)

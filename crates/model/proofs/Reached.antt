@@ -28,7 +28,7 @@ use Rattle.model.specs.State.{Tables, Stored, underWay, sizeOf, setsOf, 
 use Rattle.model.specs.Desk.{Effect}
 use Rattle.model.specs.Deliver.{between, delivered}
 use Rattle.model.specs.Shape.{messageShaped, wellShaped}
-use Rattle.model.specs.Event.{actor, sitesNamed, Attempt, refused, possible, takenOff, attempt, numbersFit, limitCode, effectCode, blankMessage, padded, accepted, judged, eventAt, settled, played, tested, event}
+use Rattle.model.specs.Event.{actor, sitesNamed, Attempt, refused, possible, takenOff, attempt, numbersFit, limitCode, effectCode, blankMessage, padded, acceptedState, judged, eventAt, settled, played, tested, event}
 use Rattle.model.specs.Run.{run}
 use Rattle.model.proofs.Machine.{systemOf, sentOf, rigOf, Sized, DeskSized, desk-sized, sized-desk, rests-same, inside-same}
 use Rattle.model.proofs.Lawful.{before, told, systemFrom}
@@ -179,8 +179,8 @@ module _ (n : ℕ) (l : List ℕ) where
   moved s k e rest r v = v .same ∙ ap (λ (y : System). R.step y (rigOf (s .tables) (underWay s)) (v .step)) (system-same (s .tables) n l (r .size) (r .sets))
 
   -- the state after an accepted move
-  steps : (s : Stored) (k : ℕ) (e : Effect) (rest : List Message) → Reached n l s → Move s k e rest → effectCode (s .tables .rig .accepted) e rest ≡ 0 → Reached n l (accepted (s .tables) k (e .desk) (rest ++ e .sent))
-  unfolding accepted padded withDesk withAccepted
+  steps : (s : Stored) (k : ℕ) (e : Effect) (rest : List Message) → Reached n l s → Move s k e rest → effectCode (s .tables .rig .accepted) e rest ≡ 0 → Reached n l (acceptedState (s .tables) k (e .desk) (rest ++ e .sent))
+  unfolding acceptedState padded withDesk withAccepted
   steps s k e rest r v h =
       let ms = rest ++ e .sent in
       let free = room _ _ _ (e .sent) (length rest) h in

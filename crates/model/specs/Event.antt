@@ -64,7 +64,7 @@ limitCode accepted clock grant sent rest =
     (cond (ltb messageLimit (rest + length sent)) 8
     0)
 
--- of an effect
+-- the same of an effect, where the messages rest stay under way
 abbrev pub effectCode : ℕ → Effect → List Message → ℕ
 effectCode accepted e rest = limitCode accepted (e .desk .site .clock) (e .desk .arbiter .grant) (e .sent) (length rest)
 
@@ -77,7 +77,7 @@ pub record Outcome : Type 0 where
 abbrev pub outcome : ℕ → Desk → List Message → Outcome
 outcome c d ms = record { code = c; desk = d; messages = ms }
 
--- the limits are judged; a desk and messages that are refused stay as they are
+-- the limits are judged; where the event is refused, the desk and the messages stay as they are
 unfoldable pub judged : ℕ → Desk → List Message → Attempt → Outcome
 judged accepted d ms (refused c) = outcome c d ms
 judged accepted d ms (possible e rest) =
@@ -106,12 +106,12 @@ unfoldable pub padded : List Message → List Message
 padded ms = ms ++ replicate (messageLimit - length ms) blankMessage
 
 -- the state after an accepted event at site k, which has the desk d now, with the messages ms under way
-unfoldable pub accepted : Tables → ℕ → Desk → List Message → Stored
-accepted t k d ms = record { tables = withAccepted (withDesk t k d) (t .rig .accepted + 1); list = padded ms; count = length ms }
+unfoldable pub acceptedState : Tables → ℕ → Desk → List Message → Stored
+acceptedState t k d ms = record { tables = withAccepted (withDesk t k d) (t .rig .accepted + 1); list = padded ms; count = length ms }
 
 -- "Nothing of the state or a lent buffer changes then", with a code other than 0
 unfoldable pub settled : Stored → ℕ → Outcome → Answer
-settled s k o = answer (o .code) (cond (eqb (o .code) 0) (accepted (s .tables) k (o .desk) (o .messages)) s)
+settled s k o = answer (o .code) (cond (eqb (o .code) 0) (acceptedState (s .tables) k (o .desk) (o .messages)) s)
 
 -- an event on a state that has passed the tests of its list and its shape: at its site, and the state that is left
 unfoldable pub played : Stored → Event → Answer

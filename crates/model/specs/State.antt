@@ -1,4 +1,4 @@
--- The state of a rig: its tables, and what one site has of them.
+-- The state of a rig: its tables, the lent list, and what one site has of the tables.
 use Prim.Native.Nat.{ℕ}
 use mathlib.Core.Bool.{Bool, true, false, _&&_}
 use mathlib.Core.List.{List, []}
@@ -60,7 +60,7 @@ isInside Rest = false
 isInside (Waiting s f) = false
 isInside Inside = true
 
--- "A site not waiting has sequence number and failed mark 0."
+-- "A site not waiting has sequence number and failed mark 0"
 abbrev pub seqIn : Mode → ℕ
 seqIn Rest = 0
 seqIn (Waiting s f) = s

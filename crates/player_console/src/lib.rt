@@ -46,7 +46,7 @@ fn place_for(output: &[u8], at: usize, n: usize) -> usize
     0
 }
 
-// N bytes of the page go to the output, behind its first `at` bytes.
+// The first n bytes of the page go to the output, behind its first `at` bytes.
 fn put_out(output: &mut [u8], at: usize, page: &[u8], n: usize) -> usize
     requires { ⌜ (at ≤ length (now output)) × (n ≤ length (now output)) × (n ≤ length (now page)) ⌝ }
     ensures { λ r. ⌜ r ≤ length (now (output .exit)) ⌝ }

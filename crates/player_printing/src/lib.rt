@@ -31,7 +31,7 @@ fn places(n: u64) -> usize
     k
 }
 
-// N in decimal from place `at` on, the last digit first; answers the place behind it.
+// The number n in decimal, from place `at` on, the last digit first; answers the place behind it.
 fn put_decimal(page: &mut [u8], at: usize, n: u64) -> usize
     requires { ⌜ at + 20 ≤ length (now page) ⌝ }
     ensures { λ r. ⌜ Wrote (decimal n) at (now (page .entry)) (now (page .exit)) r ⌝ }

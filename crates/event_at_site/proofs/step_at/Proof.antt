@@ -8,9 +8,10 @@ use Rattle.model.specs.State.{inRange}
 use Rattle.model.specs.Event.{actor, sitesNamed}
 use Rattle.event_desks.specs.Parts.{deskAt}
 use Rattle.event_storing.specs.Leaves.{messagesIn}
+use Rattle.event_storing.specs.Outbox.{outboxAfter}
 use Rattle.event_storing.proofs.Leaving.{left-alone}
 use Rattle.event_deliveries.proofs.AtPlace.{attempt-at}
-use Rattle.event_at_site.proofs.AtSite.{unnamed, named}
+use Rattle.event_at_site.proofs.AtSite.{unnamed, named, unnamed-attempt, named-attempt}
 use Rattle.event_at_site.proofs.step_at.Statement.{statement}
 use Rattle.event_at_site.proofs.step_at.Tie as tie
 use Rattle.event_at_site.proofs.sites_named.Reads as sites-named-reads
@@ -25,11 +26,13 @@ refused-requires : tie.Need-refused-requires
 refused-requires c κs = search needs
 
 returns : tie.Need-returns
+unfolding outboxAfter
 returns c =
     let a = c .before .before .before .args in
     let d = deskAt (a .size) (actor (a .e)) (a .set) (a .site) (a .arbiter) (now (a .tables)) in
     let ms = messagesIn (a .count) (now (a .list)) in
-    rw (unnamed (a .accepted) d ms (a .e) (sym (c .before .before .sites-named .ensures) ∙ not-true _ (c .before .if1 .taken)), c .refused .ensures) (left-alone (now (a .tables)) _ (now (a .list)) _ (actor (a .e)) (a .count) 4 (a .size) (a .set) (a .site) (a .arbiter) ms refl refl refl (c .before .before .before .pre .zeros))
+    let no = sym (c .before .before .sites-named .ensures) ∙ not-true _ (c .before .if1 .taken) in
+    rw (unnamed (a .accepted) d ms (a .e) no, unnamed-attempt d ms (a .e) no, c .refused .ensures) (left-alone (now (a .tables)) _ (now (a .list)) _ (actor (a .e)) (a .count) 4 (a .size) (a .set) (a .site) (a .arbiter) ms refl refl refl (c .before .before .before .pre .zeros), refl)
 
 enum-known-e : tie.Need-enum-known-e
 enum-known-e c = search needs
@@ -65,7 +68,8 @@ returns-2 c =
     let a = c .before .before .before .before .before .before .before .before .before .args in
     let d = deskAt (a .size) (actor (a .e)) (a .set) (a .site) (a .arbiter) (now (a .tables)) in
     let ms = messagesIn (a .count) (now (a .list)) in
-    rw (named (a .accepted) d ms (a .e) (sym (c .before .before .before .before .before .before .before .before .sites-named .ensures) ∙ not-false _ (c .before .before .before .before .before .before .before .if1 .left)), c .before .before .before .before .before .e .given .1) (c .turn .ensures)
+    let yes = sym (c .before .before .before .before .before .before .before .before .sites-named .ensures) ∙ not-false _ (c .before .before .before .before .before .before .before .if1 .left) in
+    rw (named (a .accepted) d ms (a .e) yes, named-attempt d ms (a .e) yes, c .before .before .before .before .before .e .given .1) (c .turn .ensures)
 
 returns-3 : tie.Need-returns-3
 unfolding actor
@@ -73,7 +77,8 @@ returns-3 c =
     let a = c .before .before .before .before .before .before .before .before .before .args in
     let d = deskAt (a .size) (actor (a .e)) (a .set) (a .site) (a .arbiter) (now (a .tables)) in
     let ms = messagesIn (a .count) (now (a .list)) in
-    rw (named (a .accepted) d ms (a .e) (sym (c .before .before .before .before .before .before .before .before .sites-named .ensures) ∙ not-false _ (c .before .before .before .before .before .before .before .if1 .left)), c .before .before .before .before .before .e2 .given .1) (c .turn2 .ensures)
+    let yes = sym (c .before .before .before .before .before .before .before .before .sites-named .ensures) ∙ not-false _ (c .before .before .before .before .before .before .before .if1 .left) in
+    rw (named (a .accepted) d ms (a .e) yes, named-attempt d ms (a .e) yes, c .before .before .before .before .before .e2 .given .1) (c .turn2 .ensures)
 
 returns-4 : tie.Need-returns-4
 unfolding actor
@@ -82,7 +87,8 @@ returns-4 c =
     let d = deskAt (a .size) (actor (a .e)) (a .set) (a .site) (a .arbiter) (now (a .tables)) in
     let ms = messagesIn (a .count) (now (a .list)) in
     let q = c .before .before .before .before .before .e3 .given .1 in
-    rw (named (a .accepted) d ms (a .e) (sym (c .before .before .before .before .before .before .before .before .sites-named .ensures) ∙ not-false _ (c .before .before .before .before .before .before .before .if1 .left)), q, attempt-at) (c .deliver .ensures)
+    let yes = sym (c .before .before .before .before .before .before .before .before .sites-named .ensures) ∙ not-false _ (c .before .before .before .before .before .before .before .if1 .left) in
+    rw (named (a .accepted) d ms (a .e) yes, named-attempt d ms (a .e) yes, q, attempt-at) (c .deliver .ensures)
 
 pub step-at-spec : {M : Type 1} → statement M
 step-at-spec =

@@ -14,8 +14,9 @@ use Rattle.list_search.specs.Places.{foundIn}
 use Rattle.list_search.proofs.Places.{found-at}
 use Rattle.event_desks.specs.Parts.{deskAt}
 use Rattle.event_storing.specs.Leaves.{messagesIn}
+use Rattle.event_storing.specs.Outbox.{outboxAfter}
 use Rattle.event_storing.proofs.Leaving.{left-alone}
-use Rattle.event_storing.proofs.Carried.{carried-effect, carried-fits, site-number}
+use Rattle.event_storing.proofs.Carried.{carried-effect, carried-fits, carried-outbox, site-number}
 use Rattle.event_deliveries.specs.AtPlace.{attemptAt}
 use Rattle.event_deliveries.proofs.AtPlace.{others-at, message-at}
 use Rattle.event_deliveries.proofs.deliver.Statement.{statement}
@@ -40,11 +41,11 @@ refused-requires : tie.Need-refused-requires
 refused-requires c κs = search needs
 
 returns : tie.Need-returns
-unfolding attemptAt judged
+unfolding attemptAt judged outboxAfter
 returns c =
     let a = c .before .before .before .before .before .args in
     let none : foundIn (a .a) (a .b) (take (a .count) (now (a .list))) ≡ Nowhere = sym (c .before .before .before .first .ensures) ∙ c .before .enum-told .given .1 in
-    rw (none, c .refused .ensures) (left-alone (now (a .tables)) _ (now (a .list)) _ (a .b) (a .count) 7 (a .size) (a .set) (a .site) (a .arbiter) (messagesIn (a .count) (now (a .list))) refl refl refl (c .before .before .before .before .before .pre .1 .zeros))
+    rw (none, c .refused .ensures) (left-alone (now (a .tables)) _ (now (a .list)) _ (a .b) (a .count) 7 (a .size) (a .set) (a .site) (a .arbiter) (messagesIn (a .count) (now (a .list))) refl refl refl (c .before .before .before .before .before .pre .1 .zeros), refl)
 
 desk-requires : tie.Need-desk-requires
 desk-requires c κs = let p = c .before .before .before .before .before .before .pre in site-number (p .1) (p .0)
@@ -100,7 +101,10 @@ returns-2 c =
     let place = c .before .before .before .before .before .before .before .before .before .before .before .before .place .given .0 .0 in
     let found = sym (c .before .before .before .before .before .before .before .before .before .before .before .before .before .before .first .ensures) ∙ c .before .before .before .before .before .before .before .before .before .before .before .before .place .given .1 in
     let did : _ ≡ delivered d (messageOf (getD (now (a .list)) place [])) = carried-effect (c .before .before .before .before .before .deliver .ensures) ∙ rw (c .before .before .before .before .before .before .before .before .before .desk .ensures, c .before .before .before .before .before .before .before .message .ensures) in
-    rw (found, message-at (a .a) (a .b) (a .count) (now (a .list)) place found, others-at (a .count) (now (a .list)) place, sym did) (c .conclude .ensures (a .size) (a .set))
+    let m = message-at (a .a) (a .b) (a .count) (now (a .list)) place found in (
+      rw (found, m, others-at (a .count) (now (a .list)) place, sym did) (c .conclude .ensures (a .size) (a .set)),
+      rw (found, m, ← c .before .before .before .before .before .before .before .before .before .desk .ensures, ← c .before .before .before .before .before .before .before .message .ensures) (carried-outbox (c .before .before .before .before .before .deliver .ensures) _),
+    )
 
 pub deliver-spec : {M : Type 1} → statement M
 deliver-spec =

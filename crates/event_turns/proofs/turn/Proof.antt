@@ -7,9 +7,11 @@ use borrow.Author.Tests.{ne-eqb}
 use borrow.Author.Needs.{needs}
 use Rattle.rig.specs.Limits.{sentLimit}
 use Rattle.event_desks.specs.Parts.{deskAt}
+use Rattle.model.specs.Event.{judged}
 use Rattle.event_storing.specs.Leaves.{messagesIn}
+use Rattle.event_storing.specs.Outbox.{outboxAfter}
 use Rattle.event_storing.proofs.Leaving.{left-alone}
-use Rattle.event_storing.proofs.Carried.{carried-effect, carried-fits, all-stay, same-judged, site-number}
+use Rattle.event_storing.proofs.Carried.{carried-effect, carried-fits, carried-outbox, all-stay, same-judged, site-number}
 use Rattle.event_turns.specs.Turns.{turnEffect}
 use Rattle.event_turns.proofs.Turns.{turned-down, turned}
 use Rattle.event_turns.proofs.turn.Statement.{statement}
@@ -27,6 +29,7 @@ refused-requires : tie.Need-refused-requires
 refused-requires c κs = search needs
 
 returns : tie.Need-returns
+unfolding judged outboxAfter
 returns c =
     let a = c .before .before .before .args in
     let p = c .before .before .before .pre in
@@ -34,7 +37,7 @@ returns c =
     let ms = messagesIn (a .count) (now (a .list)) in
     let code = c .before .before .turn-code .ensures in
     let ne = rw code at (c .before .if1 .taken) in
-    rw (turned-down (a .accepted) d ms (a .asks) ne, c .refused .ensures, code) (left-alone (now (a .tables)) _ (now (a .list)) _ (a .s) (a .count) _ (a .size) (a .set) (a .site) (a .arbiter) ms (ne-eqb _ 0 ne) refl refl (p .1 .zeros))
+    rw (turned-down d ms (a .asks) ne, c .refused .ensures, code) (left-alone (now (a .tables)) _ (now (a .list)) _ (a .s) (a .count) _ (a .size) (a .set) (a .site) (a .arbiter) ms (ne-eqb _ 0 ne) refl refl (p .1 .zeros), refl)
 
 desk-requires : tie.Need-desk-requires
 desk-requires c κs = let p = c .before .before .before .pre in site-number (p .1) (p .0)
@@ -58,7 +61,10 @@ returns-2 c =
     let ms = messagesIn (a .count) (now (a .list)) in
     let may = sym (c .before .before .before .before .before .before .before .before .before .before .turn-code .ensures) ∙ c .before .before .before .before .before .before .before .before .before .if1 .left in
     let did = carried-effect (c .before .before .before .before .before .turn-rule .ensures) ∙ ap (turnEffect (a .asks)) (c .before .before .before .before .before .before .before .desk .ensures) in
-    rw (turned (a .accepted) d ms (a .asks) may ∙ sym (same-judged (a .accepted) d ms did (all-stay (a .count) (now (a .list))))) (c .conclude .ensures (a .size) (a .set))
+    let possible = turned d ms (a .asks) may in (
+      rw (ap (judged (a .accepted) d ms) possible ∙ sym (same-judged (a .accepted) d ms did (all-stay (a .count) (now (a .list))))) (c .conclude .ensures (a .size) (a .set)),
+      rw (possible, ← c .before .before .before .before .before .before .before .desk .ensures) (carried-outbox (c .before .before .before .before .before .turn-rule .ensures) _),
+    )
 
 pub turn-spec : {M : Type 1} → statement M
 turn-spec =
