@@ -26,7 +26,7 @@ use Rattle.list_search.specs.declared.Found.the-variants.{At, Nowhere}
 use Rattle.list_search.specs.Places.{placeFrom}
 use Rattle.list_rows.specs.Rows.{rowOf, messageOf}
 use Rattle.list_lent.specs.First.{firstIn}
-use Rattle.engine_parts.specs.Parts.{senderOf, receiverOf, readOf, blankRows, judgedRows, placeOf, changedFrom}
+use Rattle.engine_parts.specs.Parts.{senderOf, receiverOf, readOf, blankRows, judgedRows, placeFound, changedFrom}
 
 -- an answer, with another list in the state that it leaves
 abbrev pub relisted : List Message → M.Answer → M.Answer
@@ -138,18 +138,18 @@ module _ (L : List Message) (place : ℕ) where
 
     -- an outcome is settled alike, and the list that it leaves is L rewritten
     settled-same : length L ≡ messageLimit → place ≤ length L → (k : ℕ) (o : M.Outcome) → Fits o → rewritten (M.settled (stored l) k o) ≡ M.settled (stored L) k o
-    unfolding M.settled M.accepted
+    unfolding M.settled M.acceptedState
     settled-same full low k o s =
         by-bool (eqb (o .code) 0)
         (λ h. let b = s h in
         let long : length (M.padded (o .messages)) ≡ length L = padded-long (o .messages) (b .0) ∙ sym full in
-        let next = M.answer (o .code) (M.accepted t k (o .desk) (o .messages)) in
+        let next = M.answer (o .code) (M.acceptedState t k (o .desk) (o .messages)) in
         rw h
         (ap (λ (ms : List Message). relisted ms next) (rejoined L (M.padded (o .messages)) place low long (padded-take place (o .messages) (b .1 .0) ∙ b .1 .1))))
         (λ h. rw h (ap (λ (ms : List Message). M.answer (o .code) (stored ms)) (kept L (drop (length L) l))))
 
 -- the place from which an event changes the list is one of the first n, or n
-place-within : (test : Message → Bool) (xs : List Message) (n m : ℕ) → m ≤ n → (f : Found) → placeFrom 0 test (take m xs) ≡ f → placeOf n f ≤ n
+place-within : (test : Message → Bool) (xs : List Message) (n m : ℕ) → m ≤ n → (f : Found) → placeFrom 0 test (take m xs) ≡ f → placeFound n f ≤ n
 place-within test xs n m h (At i) e = let a = found-agrees test (take m xs) i e .0 in let b = length-take m xs in omega arith
 place-within test xs n m h Nowhere e = omega arith
 
@@ -160,7 +160,7 @@ module _ (d : Desk) (L : List Message) (n : ℕ) (fits : n ≤ length L) where
 
   -- a delivery: its message stands at the place, and the messages before it stay
   taken-leaves : (test : Message → Bool) (f : Found) → placeFrom 0 test (take n L) ≡ f → (o : Option Message) → first test (take n L) ≡ o
-      → Leaves L (placeOf n f) (M.takenOff d o (withoutFirst test (take n L)))
+      → Leaves L (placeFound n f) (M.takenOff d o (withoutFirst test (take n L)))
   unfolding M.takenOff
   taken-leaves test f p none q = refl
   taken-leaves test (At i) p (some m) q =
@@ -169,7 +169,7 @@ module _ (d : Desk) (L : List Message) (n : ℕ) (fits : n ≤ length L) where
       (g .1, g .2 ∙ take-take i n L (omega arith))
   taken-leaves test Nowhere p (some m) q = let w = none-found test 0 (take n L) p in let z : _≡_ {A = ℕ} 0 1 = cc in absurd (omega arith)
 
-  attempt-leaves : (e : Event) → Leaves L (placeOf n (firstIn (senderOf e) (receiverOf e) (take n L))) (M.attempt d (take n L) e)
+  attempt-leaves : (e : Event) → Leaves L (placeFound n (firstIn (senderOf e) (receiverOf e) (take n L))) (M.attempt d (take n L) e)
   unfolding M.attempt
   attempt-leaves (Ask s) = one-leaves L _ (isResting (d .site .mode)) _ _ (all-stay _ (place-within (between 0 0) L n n (omega arith) _ refl)) refl
   attempt-leaves (Leave s) = one-leaves L _ (isInside (d .site .mode)) _ _ (all-stay _ (place-within (between 0 0) L n n (omega arith) _ refl)) refl
@@ -189,7 +189,7 @@ module _ (t : Tables) (L l : List Message) (n : ℕ) (e : Event) where
   from = changedFrom (told .code) (firstIn (senderOf e) (receiverOf e) (take (readOf n (length L)) L)) n (length L)
 
   abbrev place : ℕ
-  place = placeOf n (firstIn (senderOf e) (receiverOf e) (take (readOf n (length L)) L))
+  place = placeFound n (firstIn (senderOf e) (receiverOf e) (take (readOf n (length L)) L))
 
   few-read : readOf n (length L) ≤ n
   few-read =
