@@ -1,5 +1,5 @@
 // Whether a stored state is well shaped, else code 10 of document 01: the tests of its messages, and `well_shaped`, which answers for
-// every input: a size past the limit, a site outside the tables, a kind that no message has, a count past 1,024.
+// every rig, tables and messages: a size past the limit, a site outside the tables, a kind that no message has.
 use list_rows::Row;
 use list_rows::Rows;
 use list_rows::message;
@@ -16,6 +16,7 @@ ghost use mathlib.Core.Path.{_≡_};
 ghost use mathlib.Core.List.{map};
 ghost use Prim.Native.Nat.{_≤_};
 ghost use lib.ListN.{length, take};
+ghost use Rattle.rig.specs.Limits.{messageLimit};
 ghost use Rattle.list_rows.specs.Rows.{messageOf};
 ghost use Rattle.list_rows.specs.State.{before};
 ghost use Rattle.model.specs.Shape.{numberShaped, plainShaped, releaseShaped, aboutShaped, messageShaped, messagesShaped, wellShaped};
@@ -99,13 +100,11 @@ fn messages_shaped(size: u64, sets: &[u64; Rig::SITES], list: &[Row], count: usi
     true
 }
 
-// The whole state: at most 1,024 messages under way, the rig, its tables, and those messages.
+// An inner call: the rig, its tables, and the messages under way, which are at most 1,024.
 pub fn well_shaped(rig: Rig, tables: &Tables, list: &Rows, count: usize) -> bool
+    requires { ⌜ count ≤ messageLimit ⌝ }
     ensures { λ r. ⌜ r ≡ wellShaped (before rig tables list count) ⌝ }
 {
-    if count > Rig::MESSAGES {
-        return false;
-    }
     if !rig_shaped(rig) {
         return false;
     }
