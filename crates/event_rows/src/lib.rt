@@ -13,6 +13,8 @@ use rig::Tables;
 use shape_state::well_shaped;
 ghost use mathlib.Core.Path.{_≡_};
 ghost use mathlib.Core.Bool.{true};
+ghost use Prim.Native.Nat.{_≤_};
+ghost use Rattle.rig.specs.Limits.{messageLimit};
 ghost use Rattle.model.specs.Shape.{wellShaped};
 ghost use Rattle.model.specs.Event.{tested};
 ghost use Rattle.list_rows.specs.Rows.{ZeroPast};
@@ -62,9 +64,9 @@ pub fn step(
     }
 }
 
-// An inner call: an event on any state whose rows past the count are zeros: 10 where it is misshapen.
+// An inner call: an event on any state with at most 1,024 messages under way, whose rows past them are zeros: 10 where it is misshapen.
 pub fn event(rig: Rig, tables: &mut Tables, list: &mut Rows, count: usize, e: Event) -> Answer
-    requires { ⌜ ZeroPast count (now list) ⌝ }
+    requires { ⌜ (count ≤ messageLimit) × ZeroPast count (now list) ⌝ }
     ensures { λ r. ⌜ after r tables list ≡ tested (before rig tables list count) e ⌝ }
 {
     if !well_shaped(rig, tables, list, count) {

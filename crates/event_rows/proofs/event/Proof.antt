@@ -12,7 +12,7 @@ use Rattle.rig.proofs.Answer.refused.Reads as refused-reads
 use Rattle.shape_state.proofs.well_shaped.Reads as well-shaped-reads
 
 well-shaped-requires : tie.Need-well-shaped-requires
-well-shaped-requires c κs = search needs
+well-shaped-requires c κs = c .before .before .pre .0
 
 refused-requires : tie.Need-refused-requires
 refused-requires c κs = search needs
@@ -26,7 +26,7 @@ returns c =
     rw (c .refused .ensures) (sym told)
 
 step-requires : tie.Need-step-requires
-step-requires c κs = (sym (c .before .before .before .before .well-shaped .ensures) ∙ not-false _ (c .before .before .before .if1 .left), c .before .before .before .before .before .before .before .pre)
+step-requires c κs = (sym (c .before .before .before .before .well-shaped .ensures) ∙ not-false _ (c .before .before .before .if1 .left), c .before .before .before .before .before .before .before .pre .1)
 
 returns-2 : tie.Need-returns-2
 unfolding tested
