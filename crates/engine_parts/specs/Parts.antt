@@ -24,16 +24,20 @@ receiverOf (Ask s) = 0
 receiverOf (Leave s) = 0
 receiverOf (Deliver a b) = b
 
--- how many messages are read: none where 13 or 10 turns the list or its count down
+-- the code that the list's length or its count gets: 13, 10, or 0 where both pass
+abbrev pub listCode : ℕ → ℕ → ℕ
+listCode count len = cond (not (eqb len messageLimit)) 13 (cond (ltb messageLimit count) 10 0)
+
+-- how many messages are read: none where the list is refused with that code
 abbrev pub readOf : ℕ → ℕ → ℕ
-readOf count len = cond (not (eqb len messageLimit)) 0 (cond (ltb messageLimit count) 0 count)
+readOf code count = cond (not (eqb code 0)) 0 count
 
 abbrev pub blankRows : List (List ℕ)
 blankRows = replicate messageLimit zeroRow
 
--- an event on a state in rows, read from a lent list of length len
+-- an event on a state in rows, read from a lent list that got that code
 unfoldable pub judgedRows : ℕ → Stored → Event → Answer
-judgedRows len s e = cond (not (eqb len messageLimit)) (answer 13 s) (tested s e)
+judgedRows code s e = cond (not (eqb code 0)) (answer code s) (tested s e)
 
 -- the place from which an event changes the list
 abbrev pub placeFound : ℕ → Found → ℕ

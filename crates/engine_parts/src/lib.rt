@@ -7,9 +7,11 @@ use rig::Message;
 use rig::Rig;
 use rig::Tables;
 ghost use mathlib.Core.Path.{_≡_};
+ghost use Prim.Native.Nat.{_≤_};
+ghost use Rattle.rig.specs.Limits.{messageLimit};
 ghost use Rattle.list_rows.specs.Rows.{ZeroPast};
 ghost use Rattle.list_rows.specs.State.{before, after};
-ghost use Rattle.engine_parts.specs.Parts.{senderOf, receiverOf, readOf, blankRows, judgedRows, changedFrom};
+ghost use Rattle.engine_parts.specs.Parts.{senderOf, receiverOf, listCode, readOf, blankRows, judgedRows, changedFrom};
 
 // The site that a delivery is from, 0 for an ask or a leave.
 pub fn sender(e: Event) -> u64
@@ -33,14 +35,24 @@ pub fn receiver(e: Event) -> u64
     }
 }
 
-// How many messages are read: none where 13 or 10 turns the list or its count down.
-pub fn read_count(count: usize, len: usize) -> usize
-    ensures { λ r. ⌜ r ≡ readOf count len ⌝ }
+// The code that the list's length or its count gets: 13, 10, or 0 where both pass.
+pub fn list_code(count: usize, len: usize) -> u64
+    ensures { λ r. ⌜ r ≡ listCode count len ⌝ }
 {
     if len != Rig::MESSAGES {
-        return 0;
+        return 13;
     }
     if count > Rig::MESSAGES {
+        return 10;
+    }
+    0
+}
+
+// How many messages are read: none where the list is refused with that code.
+pub fn read_count(code: u64, count: usize) -> usize
+    ensures { λ r. ⌜ r ≡ readOf code count ⌝ }
+{
+    if code != 0 {
         return 0;
     }
     count
@@ -53,20 +65,20 @@ pub fn blank_rows() -> Rows
     [[0; Message::FIELDS]; Rig::MESSAGES]
 }
 
-// An inner call: one event on rows, where the list that they were read from has that length.
+// An inner call: one event on rows, where the list that they were read from got that code.
 pub fn on_rows(
     rig: Rig,
     tables: &mut Tables,
     rows: &mut Rows,
-    len: usize,
+    code: u64,
     count: usize,
     e: Event,
 ) -> Answer
-    requires { ⌜ ZeroPast count (now rows) ⌝ }
-    ensures { λ r. ⌜ after r tables rows ≡ judgedRows len (before rig tables rows count) e ⌝ }
+    requires { ⌜ (code ≡ 0 → count ≤ messageLimit) × ZeroPast count (now rows) ⌝ }
+    ensures { λ r. ⌜ after r tables rows ≡ judgedRows code (before rig tables rows count) e ⌝ }
 {
-    if len != Rig::MESSAGES {
-        return Answer::refused(13, rig, count);
+    if code != 0 {
+        return Answer::refused(code, rig, count);
     }
     event_rows::event(rig, tables, rows, count, e)
 }

@@ -1,10 +1,9 @@
--- `on_rows`: 13, then the event.
+-- `on_rows`: the list's code, then the event.
 use mathlib.Core.Path.{_≡_, sym, ap}
 use mathlib.Core.Bool.{Bool, not, cond}
 use denote.Ref.{now}
 use borrow.Author.Needs.{needs}
 use borrow.Author.Tests.{eq-eqb, ne-eqb}
-use Rattle.rig.specs.Limits.{messageLimit}
 use Rattle.model.specs.Event.{answer, tested}
 use Rattle.list_rows.specs.State.{stored}
 use Rattle.engine_parts.specs.Parts.{judgedRows}
@@ -21,11 +20,13 @@ unfolding judgedRows
 returns c =
     let a = c .before .before .args in
     let s = stored (a .rig) (now (a .tables)) (now (a .rows)) (a .count) in
-    let told : judgedRows (a .len) s (a .e) ≡ answer 13 s = ap (λ (b : Bool). cond (not b) (answer 13 s) (tested s (a .e))) (ne-eqb (a .len) messageLimit (c .before .if1 .taken)) in
+    let told : judgedRows (a .code) s (a .e) ≡ answer (a .code) s = ap (λ (b : Bool). cond (not b) (answer (a .code) s) (tested s (a .e))) (ne-eqb (a .code) 0 (c .before .if1 .taken)) in
     rw (c .refused .ensures) (sym told)
 
 event-requires : tie.Need-event-requires
-event-requires c κs = search needs
+event-requires c κs =
+    let p = c .before .before .before .pre in
+    (p .0 (c .before .before .if1 .left), p .1)
 
 returns-2 : tie.Need-returns-2
 unfolding judgedRows

@@ -1,6 +1,5 @@
--- `read_count`: two tests.
-use borrow.Author.Tests.{eq-eqb, ne-eqb, lt-ltb, le-ltb}
-use Rattle.rig.specs.Limits.{messageLimit}
+-- `read_count`: one test.
+use borrow.Author.Tests.{eq-eqb, ne-eqb}
 use Rattle.engine_parts.proofs.read_count.Statement.{statement}
 use Rattle.engine_parts.proofs.read_count.Tie as tie
 
@@ -8,10 +7,7 @@ returns : tie.Need-returns
 returns c = rw (ne-eqb _ _ (c .if1 .taken))
 
 returns-2 : tie.Need-returns-2
-returns-2 c = rw (eq-eqb _ _ (c .before .if1 .left), lt-ltb messageLimit (c .before .before .args .count) (c .if2 .taken))
-
-returns-3 : tie.Need-returns-3
-returns-3 c = rw (eq-eqb _ _ (c .before .if1 .left), le-ltb messageLimit (c .before .before .args .count) (c .if2 .left))
+returns-2 c = rw (eq-eqb _ _ (c .if1 .left))
 
 pub read-count-spec : {M : Type 1} → statement M
-read-count-spec = tie.close (tie.spec returns returns-2 returns-3)
+read-count-spec = tie.close (tie.spec returns returns-2)
