@@ -20,21 +20,30 @@ use Rattle.list_rows.specs.Rows.{rowOf, messageOf, zeroRow, ZeroPast}
 use Rattle.list_rows.specs.State.{stored as in-rows}
 use Rattle.list_exchange.proofs.Zeros.{pasted-blank}
 use Rattle.list_lent.specs.First.{firstIn}
-use Rattle.engine_parts.specs.Parts.{senderOf, receiverOf, readOf, blankRows, judgedRows, changedFrom}
+use Rattle.engine_parts.specs.Parts.{senderOf, receiverOf, listCode, readOf, blankRows, judgedRows, changedFrom}
 use Rattle.engine.specs.Lent.{stored, answered}
 use Rattle.engine.proofs.Lent.{relisted, read-rows, from-fits, from-long, composed}
 
--- no message past the list's end is read, and none past the 1,024th
-pub read-few : (n len : ℕ) → readOf n len ≤ messageLimit
-read-few n len =
+-- where the list's code is 0, its length is 1,024 and its count at most that
+code-passes : (n len : ℕ) → listCode n len ≡ 0 → (len ≡ messageLimit) × (n ≤ messageLimit)
+code-passes n len h =
     by-bool (eqb len messageLimit)
-    (λ a. by-bool (ltb messageLimit n) (λ b. rw (a, b) (omega arith)) (λ b. let l = ltb-false messageLimit n b in rw (a, b) (omega arith)))
-    (λ a. rw a (omega arith))
+    (λ a. by-bool (ltb messageLimit n)
+    (λ b. let z : _≡_ {A = ℕ} 10 0 = rw (a, b) at h in absurd (omega arith))
+    (λ b. (eqb-true len messageLimit a, ltb-false messageLimit n b)))
+    (λ a. let z : _≡_ {A = ℕ} 13 0 = rw a at h in absurd (omega arith))
 
-pub read-in : (n : ℕ) (ys : List Message) → readOf n (length ys) ≤ length ys
+pub code-few : (n len : ℕ) → listCode n len ≡ 0 → n ≤ messageLimit
+code-few n len h = code-passes n len h .1
+
+-- no message past the list's end is read, and none past the 1,024th
+pub read-few : (n len : ℕ) → readOf (listCode n len) n ≤ messageLimit
+read-few n len = by-bool (eqb (listCode n len) 0) (λ a. rw a (code-few n len (eqb-true _ 0 a))) (λ a. rw a (omega arith))
+
+pub read-in : (n : ℕ) (ys : List Message) → readOf (listCode n (length ys)) n ≤ length ys
 read-in n ys =
-    by-bool (eqb (length ys) messageLimit)
-    (λ a. let f = eqb-true (length ys) messageLimit a in let l = read-few n (length ys) in omega arith)
+    by-bool (eqb (listCode n (length ys)) 0)
+    (λ a. let p = code-passes n (length ys) (eqb-true _ 0 a) in rw a (omega (arith, p .0, p .1)))
     (λ a. rw a (omega arith))
 
 -- rows of zeros are zeros from each place on
@@ -47,38 +56,35 @@ blank-past : (n : ℕ) → ZeroPast n blankRows
 blank-past n = ap (λ (i : ℕ). take n blankRows ++ replicate (i - n) zeroRow) (length-replicate messageLimit zeroRow) ∙ zeros n messageLimit
 
 -- past the count, the rows read from a list are zeros: it is the number of rows read, or no row is read
-rows-past : (n : ℕ) (ys : List Message) → ZeroPast n (paste blankRows 0 (map rowOf ys) (readOf n (length ys)))
+rows-past : (n : ℕ) (ys : List Message) → ZeroPast n (paste blankRows 0 (map rowOf ys) (readOf (listCode n (length ys)) n))
 rows-past n ys =
-    by-bool (eqb (length ys) messageLimit)
-    (λ a. by-bool (ltb messageLimit n)
-    (λ b. rw (a, b) (blank-past n))
-    (λ b. let k = ltb-false messageLimit n b in
-    let f = eqb-true (length ys) messageLimit a in
+    by-bool (eqb (listCode n (length ys)) 0)
+    (λ a. let p = code-passes n (length ys) (eqb-true _ 0 a) in
     let l = length-replicate messageLimit zeroRow in
     let z : 0 + n ≡ n = omega arith in
-    rw (a, b)
+    rw a
     (subst (λ (i : ℕ). ZeroPast i (paste blankRows 0 (map rowOf ys) n)) z
-    (pasted-blank 0 blankRows (map rowOf ys) n (omega arith) (rw length-map (omega arith)) (blank-past 0)))))
+    (pasted-blank 0 blankRows (map rowOf ys) n (omega (arith, p .1)) (rw length-map (omega (arith, p .0, p .1))) (blank-past 0))))
     (λ a. rw a (blank-past n))
 
-pub zero-past : (n : ℕ) (ys : List Message) (blank before : List (List ℕ)) → blank ≡ blankRows → before ≡ paste blank 0 (map rowOf ys) (readOf n (length ys)) → ZeroPast n before
+pub zero-past : (n : ℕ) (ys : List Message) (blank before : List (List ℕ)) → blank ≡ blankRows → before ≡ paste blank 0 (map rowOf ys) (readOf (listCode n (length ys)) n) → ZeroPast n before
 zero-past n ys blank before p q = rw (q, p) (rows-past n ys)
 
 module _ (g : Rig) (ts : List (List (List ℕ))) (ys : List Message) (n : ℕ) (e : Event) (r : Answer) (ts′ : List (List (List ℕ))) (blank before after : List (List ℕ)) where
   abbrev read : ℕ
-  read = readOf n (length ys)
+  read = readOf (listCode n (length ys)) n
 
   abbrev start : ℕ → ℕ
   start code = changedFrom code (firstIn (senderOf e) (receiverOf e) (take read ys)) n (length ys)
 
   module _ (blank-is : blank ≡ blankRows) (before-is : before ≡ paste blank 0 (map rowOf ys) read)
-      (said : M.answer (r .code) (in-rows (r .rig) ts′ after (r .count)) ≡ judgedRows (length ys) (in-rows g ts before n) e) where
+      (said : M.answer (r .code) (in-rows (r .rig) ts′ after (r .count)) ≡ judgedRows (listCode n (length ys)) (in-rows g ts before n) e) where
     same : length ys ≡ messageLimit → n ≤ messageLimit → take n (map messageOf before) ≡ take n ys
     same f k =
         let all : read ≡ n = rw (eq-eqb (length ys) messageLimit f, le-ltb messageLimit n k) in
         rw (before-is, blank-is, all) (read-rows ys n (omega arith) k)
 
-    code-is : r .code ≡ judgedRows (length ys) (in-rows g ts before n) e .code
+    code-is : r .code ≡ judgedRows (listCode n (length ys)) (in-rows g ts before n) e .code
     code-is = ap (λ (a : M.Answer). a .code) said
 
     pub from-in : start (r .code) ≤ length ys

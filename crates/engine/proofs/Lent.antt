@@ -8,7 +8,7 @@ use native.Mathlib.Omega.{arith}
 use lib.Dec.{eqb, leb, ltb}
 use lib.ListN.{length, take, drop, length-append, length-take, length-drop, length-replicate, take-append-drop}
 use lib.Seq.{paste, paste-zero, length-take-le, take-all, take-append-le, take-take, drop-length}
-use borrow.Author.Tests.{eqb-true, leb-true, eq-eqb, le-ltb}
+use borrow.Author.Tests.{eqb-true, leb-true, ltb-true, eq-eqb, lt-leb, le-ltb}
 use Rattle.basics.specs.Helpers.{first, withoutFirst}
 use Rattle.basics.proofs.Basics.{by-bool, clash}
 use Rattle.rig.specs.declared.Desk.{Desk}
@@ -26,7 +26,7 @@ use Rattle.list_search.specs.declared.Found.the-variants.{At, Nowhere}
 use Rattle.list_search.specs.Places.{placeFrom}
 use Rattle.list_rows.specs.Rows.{rowOf, messageOf}
 use Rattle.list_lent.specs.First.{firstIn}
-use Rattle.engine_parts.specs.Parts.{senderOf, receiverOf, readOf, blankRows, judgedRows, placeFound, changedFrom}
+use Rattle.engine_parts.specs.Parts.{senderOf, receiverOf, listCode, readOf, blankRows, judgedRows, placeFound, changedFrom}
 
 -- an answer, with another list in the state that it leaves
 abbrev pub relisted : List Message → M.Answer → M.Answer
@@ -182,29 +182,37 @@ module _ (t : Tables) (L l : List Message) (n : ℕ) (e : Event) where
   abbrev copy : Stored
   copy = record { tables = t; list = l; count = n }
 
+  abbrev code : ℕ
+  code = listCode n (length L)
+
+  abbrev read : ℕ
+  read = readOf code n
+
   abbrev told : M.Answer
-  told = judgedRows (length L) copy e
+  told = judgedRows code copy e
 
   abbrev from : ℕ
-  from = changedFrom (told .code) (firstIn (senderOf e) (receiverOf e) (take (readOf n (length L)) L)) n (length L)
+  from = changedFrom (told .code) (firstIn (senderOf e) (receiverOf e) (take read L)) n (length L)
 
   abbrev place : ℕ
-  place = placeFound n (firstIn (senderOf e) (receiverOf e) (take (readOf n (length L)) L))
+  place = placeFound n (firstIn (senderOf e) (receiverOf e) (take read L))
 
-  few-read : readOf n (length L) ≤ n
-  few-read =
-      by-bool (eqb (length L) messageLimit)
-      (λ a. by-bool (ltb messageLimit n) (λ b. rw (a, b) (omega arith)) (λ b. rw (a, b) (omega arith)))
-      (λ a. rw a (omega arith))
+  few-read : read ≤ n
+  few-read = by-bool (eqb code 0) (λ a. rw a (omega arith)) (λ a. rw a (omega arith))
 
-  all-read : length L ≡ messageLimit → n ≤ messageLimit → readOf n (length L) ≡ n
+  all-read : length L ≡ messageLimit → n ≤ messageLimit → read ≡ n
   all-read f k = rw (eq-eqb (length L) messageLimit f, le-ltb messageLimit n k)
 
   place-low : place ≤ n
-  place-low = place-within (between (senderOf e) (receiverOf e)) L n (readOf n (length L)) few-read _ refl
+  place-low = place-within (between (senderOf e) (receiverOf e)) L n read few-read _ refl
 
   place-leaves : (d : Desk) → length L ≡ messageLimit → n ≤ messageLimit → Leaves L place (M.attempt d (take n L) e)
   place-leaves d f k = rw (all-read f k) (attempt-leaves d L n (omega arith) e)
+
+  -- 10, where the count is too large
+  too-many : (s : Stored) → leb (s .count) messageLimit ≡ false → M.tested s e ≡ M.answer 10 s
+  unfolding M.tested wellShaped
+  too-many s a = rw a
 
   -- 13 for both lists, and else what the tests say
   wrong-length : eqb (length L) messageLimit ≡ false → (told ≡ M.answer 13 copy) × (M.event whole e ≡ M.answer 13 whole)
@@ -213,12 +221,12 @@ module _ (t : Tables) (L l : List Message) (n : ℕ) (e : Event) where
 
   right-length : eqb (length L) messageLimit ≡ true → (told ≡ M.tested copy e) × (M.event whole e ≡ M.tested whole e)
   unfolding judgedRows M.event
-  right-length a = (rw a, rw a)
-
-  -- 10, where the count is too large
-  too-many : (s : Stored) → leb (s .count) messageLimit ≡ false → M.tested s e ≡ M.answer 10 s
-  unfolding M.tested wellShaped
-  too-many s a = rw a
+  right-length a = (
+    by-bool (ltb messageLimit n)
+        (λ b. rw (a, b) (sym (too-many copy (lt-leb n messageLimit (ltb-true messageLimit n b)))))
+        (λ b. rw (a, b)),
+    rw a,
+  )
 
   shaped-same : take n l ≡ take n L → wellShaped copy ≡ wellShaped whole
   unfolding wellShaped

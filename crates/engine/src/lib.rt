@@ -1,6 +1,7 @@
 // The engine's public call: one event, on a list of messages that is lent as a slice of structs.
 use engine_parts::blank_rows;
 use engine_parts::changed_from;
+use engine_parts::list_code;
 use engine_parts::on_rows;
 use engine_parts::read_count;
 use engine_parts::receiver;
@@ -22,11 +23,12 @@ pub fn event(rig: Rig, tables: &mut Tables, list: &mut [Message], count: usize, 
     ensures { λ r. ⌜ after r tables list ≡ event (before rig tables list count) e ⌝ }
 {
     let len = list.len();
-    let n = read_count(count, len);
+    let code = list_code(count, len);
+    let n = read_count(code, count);
     let found = first(list, n, sender(e), receiver(e));
     let mut rows = blank_rows();
     to_rows(list, n, &mut rows);
-    let r = on_rows(rig, tables, &mut rows, len, count, e);
+    let r = on_rows(rig, tables, &mut rows, code, count, e);
     rewrite(list, changed_from(r.code, found, count, len), &rows);
     r
 }

@@ -58,13 +58,14 @@ use Rattle.rig.specs.declared.Event.{Event}
 use Rattle.rig.specs.declared.Message.{Message}
 use Rattle.rig.specs.declared.Answer.{Answer}
 use Rattle.list_search.specs.declared.Found.{Found}
+use Rattle.rig.specs.Limits.{messageLimit}
 use Rattle.model.specs.Event as Model
 use Rattle.list_rows.specs.Rows.{rowOf, messageOf, ZeroPast}
 use Rattle.list_rows.specs.State.{stored as in-rows}
 use Rattle.list_lent.specs.First.{firstIn}
-use Rattle.engine_parts.specs.Parts.{senderOf, receiverOf, readOf, blankRows, judgedRows, changedFrom}
+use Rattle.engine_parts.specs.Parts.{senderOf, receiverOf, listCode, readOf, blankRows, judgedRows, changedFrom}
 use Rattle.engine.specs.Lent.{stored, answered}
-use Rattle.engine.proofs.Joined.{read-in, read-few, zero-past, from-in, from-full, joined}
+use Rattle.engine.proofs.Joined.{code-few, read-in, read-few, zero-past, from-in, from-full, joined}
 use Rattle.rig.proofs.Rig as G
 use Rattle.rig.proofs.Rig.Laws as G′
 use Rattle.rig.proofs.Event as E
@@ -74,6 +75,10 @@ use Rattle.rig.proofs.Answer as K
 use Rattle.rig.proofs.Answer.Laws as K′
 use Rattle.list_search.proofs.Found as F
 use Rattle.list_search.proofs.Found.Laws as F′
+use Rattle.engine_parts.proofs.list_code as list-code
+use Rattle.engine_parts.proofs.list_code.Symbol as list-code-def
+use Rattle.engine_parts.proofs.list_code.Symbol.{name as #engine-parts·list-code}
+use Rattle.engine_parts.proofs.list_code.Met as list-code-thm
 use Rattle.engine_parts.proofs.read_count as read-count
 use Rattle.engine_parts.proofs.read_count.Symbol as read-count-def
 use Rattle.engine_parts.proofs.read_count.Symbol.{name as #engine-parts·read-count}
@@ -178,6 +183,9 @@ module _ {M : Type 1} (𝓤 : URA M) (H : Heap 𝓤) (A : Atoms 𝓤) (W : Given
 
 module _ {M : Type 1} (𝓤 : URA M) (H : Heap 𝓤) (A : Atoms 𝓤) (mem′ : Memory → SProp 𝓤) (run : Routine → Fun 𝓤) where
   -- the contracts that the proof cites
+  abbrev ListCode : Contract 𝓤
+  ListCode = tripleOf 𝓤 H A list-code.signature (list-code.spec 𝓤 H A mem′ run)
+
   abbrev ReadCount : Contract 𝓤
   ReadCount = tripleOf 𝓤 H A read-count.signature (read-count.spec 𝓤 H A mem′ run)
 
@@ -226,9 +234,12 @@ module _ {M : Type 1} (𝓤 : URA M) (H : Heap 𝓤) (A : Atoms 𝓤) (W : Given
   abbrev Post : Val → SProp 𝓤
   Post = walkOf 𝓤 H A event.ended stayed (event.clauses 𝓤 H A mem′ run) .post (((κ₀, (κ₁, tt)), (q₀, (q₁, tt)), tt, x, at), tt)
 
-  -- how many messages are read, where the one that is taken off stands, and the rows under the name δ
+  -- the list's code, how many messages are read, where the one that is taken off stands, and the rows under the name δ
+  abbrev c : ℕ
+  c = listCode n (length ys)
+
   abbrev k : ℕ
-  k = readOf n (length ys)
+  k = readOf c n
 
   abbrev place : Found
   place = firstIn (senderOf e) (receiverOf e) (take k ys)
@@ -238,7 +249,7 @@ module _ {M : Type 1} (𝓤 : URA M) (H : Heap 𝓤) (A : Atoms 𝓤) (W : Given
 
   -- what `on_rows` is said to answer
   abbrev Says : Answer → List (List (List ℕ)) → List (List ℕ) → List (List ℕ) → Type 0
-  Says r ts after before = Model.answer (r .code) (in-rows (r .rig) ts after (r .count)) ≡ judgedRows (length ys) (in-rows g (t .now) before n) e
+  Says r ts after before = Model.answer (r .code) (in-rows (r .rig) ts after (r .count)) ≡ judgedRows c (in-rows g (t .now) before n) e
 
   exits : (r : Answer) (ts : List (List (List ℕ))) (zs : List Message) → length zs ≡ length ys → answered r ts zs ≡ Model.event (stored g (t .now) ys n) e → Is K.the-row r (answer-vals r)
       → ent 𝓤 (⋆ 𝓤 H A (‵ (flft κ₀ q₀) ∷ ‵ (flft κ₁ q₁) ∷ ‵ (fres (t .name) (Tabs .coded .code ts)) ∷ ‵ (finally T.the-row γ zs) ∷ [])) (Post (only (answer-vals r)))
@@ -250,14 +261,23 @@ module _ {M : Type 1} (𝓤 : URA M) (H : Heap 𝓤) (A : Atoms 𝓤) (W : Given
       owned ! K.the-row (Is K.the-row) (LL.makes K.the-type K′.the-plain 𝓤 H A) r _ gr $ done !
 
   -- ---- what each callee is passed, and that it is had; and of what it ensures, the clause alone
+  abbrev to-code : ListCode 𝓤 H A mem′ run .Ghost
+  to-code = ((tt, tt, tt, (n, (length ys, tt)), (vint w64 n ∷ [], (vint w64 (length ys) ∷ [], tt))), tt)
+
+  goes-code : ent 𝓤 (emp 𝓤) (ListCode 𝓤 H A mem′ run .pre to-code)
+  goes-code = qed W [] ∵ nothing ! $ owned ! usize (Is usize) (uint-makes 𝓤 H A W w64) (length ys) _ (refl, room .0) $ fjoin ! $ owned ! usize (Is usize) (uint-makes 𝓤 H A W w64) n _ (refl, gn) $ fjoin ! $ nothing ! $ join ! $ frame ! $ done !
+
+  said-code : (r : ℕ) → ent 𝓤 (ensured 𝓤 H A list-code.ended (list-code.clauses 𝓤 H A mem′ run) tt (n, (length ys, tt)) tt r) (fact 𝓤 (r ≡ c))
+  said-code r = exE 𝓤 _ (λ ws. snd∗ 𝓤 (sem 𝓤 H A (lasts list-code.ended tt (n, (length ys, tt)) ws)) (fact 𝓤 (r ≡ c)))
+
   abbrev to-read : ReadCount 𝓤 H A mem′ run .Ghost
-  to-read = ((tt, tt, tt, (n, (length ys, tt)), (vint w64 n ∷ [], (vint w64 (length ys) ∷ [], tt))), tt)
+  to-read = ((tt, tt, tt, (c, (n, tt)), (vint w64 c ∷ [], (vint w64 n ∷ [], tt))), tt)
 
-  goes-read : ent 𝓤 (emp 𝓤) (ReadCount 𝓤 H A mem′ run .pre to-read)
-  goes-read = qed W [] ∵ nothing ! $ owned ! usize (Is usize) (uint-makes 𝓤 H A W w64) (length ys) _ (refl, room .0) $ fjoin ! $ owned ! usize (Is usize) (uint-makes 𝓤 H A W w64) n _ (refl, gn) $ fjoin ! $ nothing ! $ join ! $ frame ! $ done !
+  goes-read : c < 2 ^ 64 → ent 𝓤 (emp 𝓤) (ReadCount 𝓤 H A mem′ run .pre to-read)
+  goes-read gc = qed W [] ∵ nothing ! $ owned ! usize (Is usize) (uint-makes 𝓤 H A W w64) n _ (refl, gn) $ fjoin ! $ owned ! u64 (Is u64) (uint-makes 𝓤 H A W w64) c _ (refl, gc) $ fjoin ! $ nothing ! $ join ! $ frame ! $ done !
 
-  said-read : (r : ℕ) → ent 𝓤 (ensured 𝓤 H A read-count.ended (read-count.clauses 𝓤 H A mem′ run) tt (n, (length ys, tt)) tt r) (fact 𝓤 (r ≡ k))
-  said-read r = exE 𝓤 _ (λ ws. snd∗ 𝓤 (sem 𝓤 H A (lasts read-count.ended tt (n, (length ys, tt)) ws)) (fact 𝓤 (r ≡ k)))
+  said-read : (r : ℕ) → ent 𝓤 (ensured 𝓤 H A read-count.ended (read-count.clauses 𝓤 H A mem′ run) tt (c, (n, tt)) tt r) (fact 𝓤 (r ≡ k))
+  said-read r = exE 𝓤 _ (λ ws. snd∗ 𝓤 (sem 𝓤 H A (lasts read-count.ended tt (c, (n, tt)) ws)) (fact 𝓤 (r ≡ k)))
 
   abbrev to-sender : Sender 𝓤 H A mem′ run .Ghost
   to-sender = ((tt, tt, tt, (e, tt), (event-vals e, tt)), tt)
@@ -312,15 +332,15 @@ module _ {M : Type 1} (𝓤 : URA M) (H : Heap 𝓤) (A : Atoms 𝓤) (W : Given
       nothing ! $ move ! (2 ∷ 0 ∷ []) $ fjoin ! $ owned ! usize (Is usize) (uint-makes 𝓤 H A W w64) k _ (refl, gk) $ fjoin ! $ move ! (1 ∷ 0 ∷ []) $ fjoin ! $ done !
 
   abbrev to-on-rows : ℕ → ℕ → GName → List (List ℕ) → OnRows 𝓤 H A mem′ run .Ghost
-  to-on-rows α b ε rs = (((κ₀, (α ∷ [], tt)), (q₀, (fullShare, tt)), tt, (g, (t, (rows b ε rs, (length ys, (n, (e, tt)))))), (rig-vals g, (ptr-val t ∷ [], (vptr b 0 ∷ [], (vint w64 (length ys) ∷ [], (vint w64 n ∷ [], (event-vals e, tt))))))), tt)
+  to-on-rows α b ε rs = (((κ₀, (α ∷ [], tt)), (q₀, (fullShare, tt)), tt, (g, (t, (rows b ε rs, (c, (n, (e, tt)))))), (rig-vals g, (ptr-val t ∷ [], (vptr b 0 ∷ [], (vint w64 c ∷ [], (vint w64 n ∷ [], (event-vals e, tt))))))), tt)
 
-  goes-on-rows : (α b : ℕ) (ε : GName) (rs : List (List ℕ)) → ZeroPast n rs
+  goes-on-rows : (α b : ℕ) (ε : GName) (rs : List (List ℕ)) → c < 2 ^ 64 → (c ≡ 0 → n ≤ messageLimit) × ZeroPast n rs
       → ent 𝓤 (⋆ 𝓤 H A (‵ (flft κ₀ q₀) ∷ ‵ (flft (α ∷ []) fullShare) ∷ ‵ (MutRef (named 0) κ₀ Tabs .own t (ptr-val t ∷ [])) ∷ ‵ (MutRef (named 1) (α ∷ []) B .own (rows b ε rs) (vptr b 0 ∷ [])) ∷ [])) (OnRows 𝓤 H A mem′ run .pre (to-on-rows α b ε rs))
-  goes-on-rows α b ε rs p =
+  goes-on-rows α b ε rs gc p =
       qed W (‵ (flft κ₀ q₀) ∷ ‵ (flft (α ∷ []) fullShare) ∷ ‵ (MutRef (named 0) κ₀ Tabs .own t (ptr-val t ∷ [])) ∷ ‵ (MutRef (named 1) (α ∷ []) B .own (rows b ε rs) (vptr b 0 ∷ [])) ∷ []) ∵
       says ! p $ nothing ! $ move ! (2 ∷ 0 ∷ []) $ join ! $ move ! (1 ∷ 0 ∷ []) $ join ! $ frame ! $
       -- [the tables; the rows]
-      nothing ! $ owned ! E.the-row (Is E.the-row) (EL.makes E.the-type E′.the-plain 𝓤 H A) e _ ge $ fjoin ! $ owned ! usize (Is usize) (uint-makes 𝓤 H A W w64) n (vint w64 n ∷ []) (refl, gn) $ fjoin ! $ owned ! usize (Is usize) (uint-makes 𝓤 H A W w64) (length ys) _ (refl, room .0) $ fjoin ! $
+      nothing ! $ owned ! E.the-row (Is E.the-row) (EL.makes E.the-type E′.the-plain 𝓤 H A) e _ ge $ fjoin ! $ owned ! usize (Is usize) (uint-makes 𝓤 H A W w64) n (vint w64 n ∷ []) (refl, gn) $ fjoin ! $ owned ! u64 (Is u64) (uint-makes 𝓤 H A W w64) c _ (refl, gc) $ fjoin ! $
       move ! (2 ∷ 0 ∷ []) $ fjoin ! $ move ! (1 ∷ 0 ∷ []) $ fjoin ! $ owned ! G.the-row (Is G.the-row) (LL.makes G.the-type G′.the-plain 𝓤 H A) g _ gg $ fjoin ! $ done !
 
   -- where the list is rewritten from, by the answer r
@@ -365,7 +385,7 @@ module _ {M : Type 1} (𝓤 : URA M) (H : Heap 𝓤) (A : Atoms 𝓤) (W : Given
   full : (rs : List (List ℕ)) → length rs ≡ 1024 → Room Five (length rs)
   full rs l = subst (Room Five) (sym l) (lit< tt, lit< tt)
 
-  module _ (C : Calls 𝓤 H) (Λ : Loops 𝓤 H) (fm : FmC 𝓤 H (W .laws) C) (known-read-count : Triple 𝓤 (C #engine-parts·read-count) (ReadCount 𝓤 H A mem′ run)) (known-sender : Triple 𝓤 (C #engine-parts·sender) (Sender 𝓤 H A mem′ run)) (known-receiver : Triple 𝓤 (C #engine-parts·receiver) (Receiver 𝓤 H A mem′ run)) (known-first : Triple 𝓤 (C #list-lent·first) (First 𝓤 H A mem′ run)) (known-blank-rows : Triple 𝓤 (C #engine-parts·blank-rows) (Blank 𝓤 H A mem′ run)) (known-to-rows : Triple 𝓤 (C #list-copy·to-rows) (ToRows 𝓤 H A mem′ run)) (known-on-rows : Triple 𝓤 (C #engine-parts·on-rows) (OnRows 𝓤 H A mem′ run)) (known-changed-from : Triple 𝓤 (C #engine-parts·changed-from) (ChangedFrom 𝓤 H A mem′ run)) (known-rewrite : Triple 𝓤 (C #list-copy·rewrite) (Rewrite 𝓤 H A mem′ run)) where
+  module _ (C : Calls 𝓤 H) (Λ : Loops 𝓤 H) (fm : FmC 𝓤 H (W .laws) C) (known-list-code : Triple 𝓤 (C #engine-parts·list-code) (ListCode 𝓤 H A mem′ run)) (known-read-count : Triple 𝓤 (C #engine-parts·read-count) (ReadCount 𝓤 H A mem′ run)) (known-sender : Triple 𝓤 (C #engine-parts·sender) (Sender 𝓤 H A mem′ run)) (known-receiver : Triple 𝓤 (C #engine-parts·receiver) (Receiver 𝓤 H A mem′ run)) (known-first : Triple 𝓤 (C #list-lent·first) (First 𝓤 H A mem′ run)) (known-blank-rows : Triple 𝓤 (C #engine-parts·blank-rows) (Blank 𝓤 H A mem′ run)) (known-to-rows : Triple 𝓤 (C #list-copy·to-rows) (ToRows 𝓤 H A mem′ run)) (known-on-rows : Triple 𝓤 (C #engine-parts·on-rows) (OnRows 𝓤 H A mem′ run)) (known-changed-from : Triple 𝓤 (C #engine-parts·changed-from) (ChangedFrom 𝓤 H A mem′ run)) (known-rewrite : Triple 𝓤 (C #list-copy·rewrite) (Rewrite 𝓤 H A mem′ run)) where
     walk : ent 𝓤 (onEntry 𝓤 H A event.signature (κ₀, (κ₁, tt)) (q₀, (q₁, tt)) x at) (WpFn 𝓤 H C Λ code.function (only (rig-vals g) ∷ ptr-val t ∷ s ∷ vint w64 n ∷ only (event-vals e) ∷ []) Post)
     walk =
         qed W ((‵ (flft κ₀ q₀) ⊛ (‵ (flft κ₁ q₁) ⊛ ‵ ftrue)) ∷ ‵ (owns (G.the-row ∷ MutRef (named 0) κ₀ Tabs ∷ MutSlice (named 1) κ₁ T.the-row ∷ usize ∷ E.the-row ∷ []) x at) ∷ []) ∵
@@ -373,121 +393,127 @@ module _ {M : Type 1} (𝓤 : URA M) (H : Heap 𝓤) (A : Atoms 𝓤) (W : Given
         keep ! (0 ∷ 1 ∷ 6 ∷ 4 ∷ 8 ∷ []) $
         -- [the list: obs, its borrow, its token; the tables and their token]
         enter ! C Λ code.function (only (rig-vals g) ∷ ptr-val t ∷ s ∷ vint w64 n ∷ only (event-vals e) ∷ []) _ $
-        alloc1 ! (λ l₀. alloc1 ! (λ l₁. alloc1 ! (λ l₂. alloc1 ! (λ l₃. alloc1 ! (λ l₄. alloc1 ! (λ l₅. alloc1 ! (λ l₆. alloc1 ! (λ l₇. alloc1 ! (λ l₈. alloc1 ! (λ l₉. alloc1 ! (λ l₁₀. alloc1 ! (λ l₁₁. alloc1 ! (λ l₁₂. alloc1 ! (λ l₁₃. alloc1 ! (λ l₁₄. alloc1 ! (λ l₁₅. alloc1 ! (λ l₁₆. alloc1 ! (λ l₁₇. alloc1 ! (λ l₁₈. alloc1 ! (λ l₁₉. alloc1 ! (λ l₂₀. alloc1 ! (λ l₂₁. alloc1 ! (λ l₂₂. alloc1 ! (λ l₂₃. alloc1 ! (λ l₂₄. alloc1 ! (λ l₂₅. alloc1 ! (λ l₂₆. alloc1 ! (λ l₂₇. alloc0 ! $ params1 ! $
-        pass1 ! (init ! 52 refl (LL.lawful G.the-type G′.the-laws 𝓤 H A W .typed g (rig-vals g) gg .0)) $ pass1 ! (init ! 50 refl (tt, tt)) $ pass1 ! (init ! 48 refl (tt, (tt, (record { fits = room .0 }, tt)))) $ pass1 ! (init ! 46 refl (tt, record { fits = gn })) $ pass1 ! (init ! 44 refl (EL.lawful E.the-type E′.the-laws 𝓤 H A W tt .typed e (event-vals e) ge .0)) $ pass0 ! $
-        -- [_27; …; _0; …; obs; the list's borrow; the list's token; the tables and their token]
-        assigns ! (of-opd ! (load ! (from ! (fld ! refl (stop !))) (look-in ! 48 (sub ! 1 refl (whole !))))) (from ! (stop !)) (init ! 42 refl (tt, record { fits = room .0 })) $
-        use0 W (raw (ReadCount 𝓤 H A mem′ run .pre to-read)) goes-read $
-        calls-at ! fm (ReadCount 𝓤 H A mem′ run) known-read-count to-read (and-then ! (load ! (from ! (stop !)) (look ! 47 refl)) (and-then ! (load ! (from ! (stop !)) (look ! 43 refl)) (no-more !))) (λ v₁.
-        use1 W (later (some (λ (r : ℕ). (‵ ftrue ⊛ ‵ (usize .own r (v₁ ∷ []))) ⊛ raw (ensured 𝓤 H A read-count.ended (read-count.clauses 𝓤 H A mem′ run) tt (n, (length ys, tt)) tt r)))) (id⊢ 𝓤 _) $ await ! tt $ pick ! (λ r₁.
+        alloc1 ! (λ l₀. alloc1 ! (λ l₁. alloc1 ! (λ l₂. alloc1 ! (λ l₃. alloc1 ! (λ l₄. alloc1 ! (λ l₅. alloc1 ! (λ l₆. alloc1 ! (λ l₇. alloc1 ! (λ l₈. alloc1 ! (λ l₉. alloc1 ! (λ l₁₀. alloc1 ! (λ l₁₁. alloc1 ! (λ l₁₂. alloc1 ! (λ l₁₃. alloc1 ! (λ l₁₄. alloc1 ! (λ l₁₅. alloc1 ! (λ l₁₆. alloc1 ! (λ l₁₇. alloc1 ! (λ l₁₈. alloc1 ! (λ l₁₉. alloc1 ! (λ l₂₀. alloc1 ! (λ l₂₁. alloc1 ! (λ l₂₂. alloc1 ! (λ l₂₃. alloc1 ! (λ l₂₄. alloc1 ! (λ l₂₅. alloc1 ! (λ l₂₆. alloc1 ! (λ l₂₇. alloc1 ! (λ l₂₈. alloc0 ! $ params1 ! $
+        pass1 ! (init ! 54 refl (LL.lawful G.the-type G′.the-laws 𝓤 H A W .typed g (rig-vals g) gg .0)) $ pass1 ! (init ! 52 refl (tt, tt)) $ pass1 ! (init ! 50 refl (tt, (tt, (record { fits = room .0 }, tt)))) $ pass1 ! (init ! 48 refl (tt, record { fits = gn })) $ pass1 ! (init ! 46 refl (EL.lawful E.the-type E′.the-laws 𝓤 H A W tt .typed e (event-vals e) ge .0)) $ pass0 ! $
+        -- [_28; …; _0; …; obs; the list's borrow; the list's token; the tables and their token]
+        assigns ! (of-opd ! (load ! (from ! (fld ! refl (stop !))) (look-in ! 50 (sub ! 1 refl (whole !))))) (from ! (stop !)) (init ! 44 refl (tt, record { fits = room .0 })) $
+        use0 W (raw (ListCode 𝓤 H A mem′ run .pre to-code)) goes-code $
+        calls-at ! fm (ListCode 𝓤 H A mem′ run) known-list-code to-code (and-then ! (load ! (from ! (stop !)) (look ! 49 refl)) (and-then ! (load ! (from ! (stop !)) (look ! 45 refl)) (no-more !))) (λ v₀.
+        use1 W (later (some (λ (r : ℕ). (‵ ftrue ⊛ ‵ (u64 .own r (v₀ ∷ []))) ⊛ raw (ensured 𝓤 H A list-code.ended (list-code.clauses 𝓤 H A mem′ run) tt (n, (length ys, tt)) tt r)))) (id⊢ 𝓤 _) $ await ! tt $ pick ! (λ r₀.
+        split ! $ move ! (1 ∷ []) $ use1 W (raw (fact 𝓤 (r₀ ≡ c))) (said-code r₀) $ heard ! (r₀ ≡ c) (λ p₀. split ! $ drop ! $ facts ! u64 (Is u64) (shows 𝓤 H A u64) r₀ (v₀ ∷ []) (λ is₀.
+        land ! (from ! (stop !)) (init ! 42 refl (uint-lawful 𝓤 H A W w64 .typed r₀ (v₀ ∷ []) is₀ .0)) $
+        rewrite ! 42 (λ (u : Val). ‵ (fat fullShare (tyInt w64) l₇ 0 u)) (number v₀ r₀ c p₀ is₀) refl $
+        use0 W (raw (ReadCount 𝓤 H A mem′ run .pre to-read)) (goes-read (small v₀ r₀ c p₀ is₀)) $
+        calls-at ! fm (ReadCount 𝓤 H A mem′ run) known-read-count to-read (and-then ! (load ! (from ! (stop !)) (look ! 43 refl)) (and-then ! (load ! (from ! (stop !)) (look ! 49 refl)) (no-more !))) (λ v₁.
+        use1 W (later (some (λ (r : ℕ). (‵ ftrue ⊛ ‵ (usize .own r (v₁ ∷ []))) ⊛ raw (ensured 𝓤 H A read-count.ended (read-count.clauses 𝓤 H A mem′ run) tt (c, (n, tt)) tt r)))) (id⊢ 𝓤 _) $ await ! tt $ pick ! (λ r₁.
         split ! $ move ! (1 ∷ []) $ use1 W (raw (fact 𝓤 (r₁ ≡ k))) (said-read r₁) $ heard ! (r₁ ≡ k) (λ p₁. split ! $ drop ! $ facts ! usize (Is usize) (shows 𝓤 H A usize) r₁ (v₁ ∷ []) (λ is₁.
         land ! (from ! (stop !)) (init ! 40 refl (uint-lawful 𝓤 H A W w64 .typed r₁ (v₁ ∷ []) is₁ .0)) $
-        rewrite ! 40 (λ (u : Val). ‵ (fat fullShare (tyInt w64) l₇ 0 u)) (number v₁ r₁ (k) p₁ is₁) refl $
+        rewrite ! 40 (λ (u : Val). ‵ (fat fullShare (tyInt w64) l₈ 0 u)) (number v₁ r₁ k p₁ is₁) refl $
         -- `&*list`
-        assigns ! (addr ! (from ! (fld ! refl (hop ! (look-in ! 48 (sub ! 0 refl (whole !))) (stop !))))) (from ! (stop !)) (init ! 32 refl (tt, tt)) $
-        assigns ! (agg ! (and-then ! (load ! (from ! (stop !)) (look ! 32 refl)) (and-then ! (load ! (from ! (fld ! refl (stop !))) (look-in ! 48 (sub ! 1 refl (whole !)))) (no-more !)))) (from ! (stop !)) (init ! 30 refl (tt, (tt, (record { fits = room .0 }, tt)))) $
+        assigns ! (addr ! (from ! (fld ! refl (hop ! (look-in ! 50 (sub ! 0 refl (whole !))) (stop !))))) (from ! (stop !)) (init ! 32 refl (tt, tt)) $
+        assigns ! (agg ! (and-then ! (load ! (from ! (stop !)) (look ! 32 refl)) (and-then ! (load ! (from ! (fld ! refl (stop !))) (look-in ! 50 (sub ! 1 refl (whole !)))) (no-more !)))) (from ! (stop !)) (init ! 30 refl (tt, (tt, (record { fits = room .0 }, tt)))) $
         use0 W (raw (Sender 𝓤 H A mem′ run .pre to-sender)) goes-sender $
-        calls-at ! fm (Sender 𝓤 H A mem′ run) known-sender to-sender (and-then ! (load ! (from ! (stop !)) (look ! 45 refl)) (no-more !)) (λ v₂.
+        calls-at ! fm (Sender 𝓤 H A mem′ run) known-sender to-sender (and-then ! (load ! (from ! (stop !)) (look ! 47 refl)) (no-more !)) (λ v₂.
         use1 W (later (some (λ (r : ℕ). (‵ ftrue ⊛ ‵ (u64 .own r (v₂ ∷ []))) ⊛ raw (ensured 𝓤 H A sender′.ended (sender′.clauses 𝓤 H A mem′ run) tt (e, tt) tt r)))) (id⊢ 𝓤 _) $ await ! tt $ pick ! (λ r₂.
         split ! $ move ! (1 ∷ []) $ use1 W (raw (fact 𝓤 (r₂ ≡ senderOf e))) (said-sender r₂) $ heard ! (r₂ ≡ senderOf e) (λ p₂. split ! $ drop ! $ facts ! u64 (Is u64) (shows 𝓤 H A u64) r₂ (v₂ ∷ []) (λ is₂.
         land ! (from ! (stop !)) (init ! 28 refl (uint-lawful 𝓤 H A W w64 .typed r₂ (v₂ ∷ []) is₂ .0)) $
-        rewrite ! 28 (λ (u : Val). ‵ (fat fullShare (tyInt w64) l₁₃ 0 u)) (number v₂ r₂ (senderOf e) p₂ is₂) refl $
+        rewrite ! 28 (λ (u : Val). ‵ (fat fullShare (tyInt w64) l₁₄ 0 u)) (number v₂ r₂ (senderOf e) p₂ is₂) refl $
         use0 W (raw (Receiver 𝓤 H A mem′ run .pre to-receiver)) goes-receiver $
-        calls-at ! fm (Receiver 𝓤 H A mem′ run) known-receiver to-receiver (and-then ! (load ! (from ! (stop !)) (look ! 45 refl)) (no-more !)) (λ v₃.
+        calls-at ! fm (Receiver 𝓤 H A mem′ run) known-receiver to-receiver (and-then ! (load ! (from ! (stop !)) (look ! 47 refl)) (no-more !)) (λ v₃.
         use1 W (later (some (λ (r : ℕ). (‵ ftrue ⊛ ‵ (u64 .own r (v₃ ∷ []))) ⊛ raw (ensured 𝓤 H A receiver′.ended (receiver′.clauses 𝓤 H A mem′ run) tt (e, tt) tt r)))) (id⊢ 𝓤 _) $ await ! tt $ pick ! (λ r₃.
         split ! $ move ! (1 ∷ []) $ use1 W (raw (fact 𝓤 (r₃ ≡ receiverOf e))) (said-receiver r₃) $ heard ! (r₃ ≡ receiverOf e) (λ p₃. split ! $ drop ! $ facts ! u64 (Is u64) (shows 𝓤 H A u64) r₃ (v₃ ∷ []) (λ is₃.
         land ! (from ! (stop !)) (init ! 26 refl (uint-lawful 𝓤 H A W w64 .typed r₃ (v₃ ∷ []) is₃ .0)) $
-        rewrite ! 26 (λ (u : Val). ‵ (fat fullShare (tyInt w64) l₁₄ 0 u)) (number v₃ r₃ (receiverOf e) p₃ is₃) refl $
-        move ! (56 ∷ 57 ∷ 58 ∷ []) $ opens-slice ! tt T.the-row ys bk o $
-        -- [the row of the list; its open borrow; obs; auth; _27; …; _0; …; the tables and their token]
+        rewrite ! 26 (λ (u : Val). ‵ (fat fullShare (tyInt w64) l₁₅ 0 u)) (number v₃ r₃ (receiverOf e) p₃ is₃) refl $
+        move ! (58 ∷ 59 ∷ 60 ∷ []) $ opens-slice ! tt T.the-row ys bk o $
+        -- [the row of the list; its open borrow; obs; auth; _28; …; _0; …; the tables and their token]
         -- the list is lent as `&` to `first`
         feqI ! ℕ (length ys) (length ys) refl $ fjoin ! $ lft-new ! tt (λ α₁. move ! (1 ∷ []) $ use1 W (later (some (λ (δ : GName). ‵ (ShrSlice (named 0) (α₁ ∷ []) T.the-row .own (xs δ ys) (s ∷ [])) ⊛ ‵ (flent (α₁ ∷ []) (arr-parts (shares T.the-row) (length ys) .part fullShare ys bk o))))) (lends-shr-slice 𝓤 H A W T.the-row (named 0) (α₁ ∷ []) fullShare ys bk o room) $ await ! tt $ pick ! (λ δ₁. split ! $
         move ! (2 ∷ 0 ∷ []) $
         use2 W (raw (First 𝓤 H A mem′ run .pre (to-first α₁ δ₁))) (goes-first α₁ δ₁ (small v₁ r₁ k p₁ is₁) (small v₂ r₂ (senderOf e) p₂ is₂) (small v₃ r₃ (receiverOf e) p₃ is₃)) $
-        -- [what the callee asks; its lender's part; its open borrow; obs; auth; _27; …; _0; …; the tables and their token]
+        -- [what the callee asks; its lender's part; its open borrow; obs; auth; _28; …; _0; …; the tables and their token]
         calls-at ! fm (First 𝓤 H A mem′ run) known-first (to-first α₁ δ₁) (and-then ! (load ! (from ! (stop !)) (look ! 35 refl)) (and-then ! (load ! (from ! (stop !)) (look ! 45 refl)) (and-then ! (load ! (from ! (stop !)) (look ! 33 refl)) (and-then ! (load ! (from ! (stop !)) (look ! 31 refl)) (no-more !))))) (λ v₄.
         use1 W (later (some (λ (r : Found). ((‵ (flft (α₁ ∷ []) fullShare) ⊛ ‵ ftrue) ⊛ ‵ (F.the-row .own r (v₄ ∷ []))) ⊛ raw (ensured 𝓤 H A first′.ended (first′.clauses 𝓤 H A mem′ run) (α₁ ∷ [], tt) (xs δ₁ ys, (k, (senderOf e, (receiverOf e, tt)))) tt r)))) (id⊢ 𝓤 _) $ await ! tt $ pick ! (λ r₄.
         split ! $ move ! (1 ∷ []) $ use1 W (raw (fact 𝓤 (r₄ ≡ place))) (said-first α₁ δ₁ r₄) $ heard ! (r₄ ≡ place) (λ p₄. split ! $ split ! $ move ! (1 ∷ []) $ drop ! $ move ! (1 ∷ []) $ facts ! F.the-row (Is F.the-row) (shows 𝓤 H A F.the-row) r₄ (v₄ ∷ []) (λ is₄. lft-end ! tt $ lent-back ! tt $ fsplit ! $ drop ! $
         land ! (from ! (stop !)) (init ! 42 refl (EL.lawful F.the-type F′.the-laws 𝓤 H A W tt .typed r₄ (v₄ ∷ []) is₄ .0)) $
-        -- [the row of the list; its open borrow; obs; auth; _27; …; _0; …; the tables and their token]
+        -- [the row of the list; its open borrow; obs; auth; _28; …; _0; …; the tables and their token]
         -- the rows, blank
         use0 W (raw (Blank 𝓤 H A mem′ run .pre to-blank)) goes-blank $
         calls-at ! fm (Blank 𝓤 H A mem′ run) known-blank-rows to-blank (no-more !) (λ v₅.
         use1 W (later (some (λ (r : List (List ℕ)). (‵ ftrue ⊛ ‵ (B .own r (v₅ ∷ []))) ⊛ raw (ensured 𝓤 H A blank-rows.ended (blank-rows.clauses 𝓤 H A mem′ run) tt tt tt r)))) (id⊢ 𝓤 _) $ await ! tt $ pick ! (λ rs.
         split ! $ move ! (1 ∷ []) $ use1 W (raw (fact 𝓤 (rs ≡ blankRows))) (said-blank rs) $ heard ! (rs ≡ blankRows) (λ p₅. split ! $ drop ! $ facts ! B (Is B) (shows 𝓤 H A B) rs (v₅ ∷ []) (λ is₅.
         land ! (from ! (stop !)) (init ! 28 refl (array-lawful 𝓤 H A W Five (array-lawful 𝓤 H A W u64 (uint-lawful 𝓤 H A W w64) 5) 1024 .typed rs (v₅ ∷ []) is₅ .0)) $
-        rewrite ! 28 (λ (u : Val). ‵ (fat fullShare arr l₁₅ 0 u)) (ap only (known-rows v₅ rs is₅)) refl $
+        rewrite ! 28 (λ (u : Val). ‵ (fat fullShare arr l₁₆ 0 u)) (ap only (known-rows v₅ rs is₅)) refl $
         assigns ! (of-opd ! (load ! (from ! (stop !)) (look ! 28 refl))) (from ! (stop !)) (init ! 40 refl (array-lawful 𝓤 H A W Five (array-lawful 𝓤 H A W u64 (uint-lawful 𝓤 H A W w64) 5) 1024 .typed rs (all rs) (blank-is v₅ rs is₅) .0)) $
         -- `&*list` and `&mut rows`
-        assigns ! (addr ! (from ! (fld ! refl (hop ! (look-in ! 52 (sub ! 0 refl (whole !))) (stop !))))) (from ! (stop !)) (init ! 24 refl (tt, tt)) $
-        assigns ! (agg ! (and-then ! (load ! (from ! (stop !)) (look ! 24 refl)) (and-then ! (load ! (from ! (fld ! refl (stop !))) (look-in ! 52 (sub ! 1 refl (whole !)))) (no-more !)))) (from ! (stop !)) (init ! 22 refl (tt, (tt, (record { fits = room .0 }, tt)))) $
+        assigns ! (addr ! (from ! (fld ! refl (hop ! (look-in ! 54 (sub ! 0 refl (whole !))) (stop !))))) (from ! (stop !)) (init ! 24 refl (tt, tt)) $
+        assigns ! (agg ! (and-then ! (load ! (from ! (stop !)) (look ! 24 refl)) (and-then ! (load ! (from ! (fld ! refl (stop !))) (look-in ! 54 (sub ! 1 refl (whole !)))) (no-more !)))) (from ! (stop !)) (init ! 22 refl (tt, (tt, (record { fits = room .0 }, tt)))) $
         assigns ! (addr ! (from ! (stop !))) (from ! (stop !)) (init ! 20 refl (tt, tt)) $
         assigns ! (agg ! (and-then ! (load ! (from ! (stop !)) (look ! 20 refl)) (and-then ! (big ! (record { fits = lit< tt })) (no-more !)))) (from ! (stop !)) (init ! 18 refl (tt, (tt, (record { fits = lit< tt }, tt)))) $
-        rewrite ! 18 (λ (j : ℕ). ‵ (fat fullShare (sliceTy (tyRef erased mut (pointee (Five .written)))) l₂₀ 0 (sliceVal (l₉, 0) j))) (sym (long v₅ rs is₅)) refl $
+        rewrite ! 18 (λ (j : ℕ). ‵ (fat fullShare (sliceTy (tyRef erased mut (pointee (Five .written)))) l₂₁ 0 (sliceVal (l₁₀, 0) j))) (sym (long v₅ rs is₅)) refl $
         -- the list is lent as `&`, the rows as `&mut`, to `to_rows`
         feqI ! ℕ (length ys) (length ys) refl $ fjoin ! $ lft-new ! tt (λ α₂. move ! (1 ∷ []) $ use1 W (later (some (λ (δ : GName). ‵ (ShrSlice (named 0) (α₂ ∷ []) T.the-row .own (xs δ ys) (s ∷ [])) ⊛ ‵ (flent (α₂ ∷ []) (arr-parts (shares T.the-row) (length ys) .part fullShare ys bk o))))) (lends-shr-slice 𝓤 H A W T.the-row (named 0) (α₂ ∷ []) fullShare ys bk o room) $ await ! tt $ pick ! (λ δ₂. split ! $
-        move ! (42 ∷ []) $ use1 W (‵ (row Five fullShare rs l₉ 0)) (apart 𝓤 H A W rs l₉ (blank-is v₅ rs is₅)) $ use1 W (‵ (cells (mem Five) rs l₉ 0)) (whole-in 𝓤 H A W Five rs l₉ 0) $ lft-new ! tt (λ β₁. move ! (1 ∷ []) $ use1 W (later (some (λ (δ : GName). ‵ (MutSlice (named 1) (β₁ ∷ []) Five .own (rows l₉ δ rs) (sliceVal (l₉, 0) (length rs) ∷ [])) ⊛ ‵ (flent (β₁ ∷ []) (Held Five (length rs) l₉ 0 δ))))) (lends-slice 𝓤 H A W Five (named 1) (β₁ ∷ []) rs l₉ 0 (full rs (long v₅ rs is₅))) $ await ! tt $ pick ! (λ ε₁. split ! $
+        move ! (42 ∷ []) $ use1 W (‵ (row Five fullShare rs l₁₀ 0)) (apart 𝓤 H A W rs l₁₀ (blank-is v₅ rs is₅)) $ use1 W (‵ (cells (mem Five) rs l₁₀ 0)) (whole-in 𝓤 H A W Five rs l₁₀ 0) $ lft-new ! tt (λ β₁. move ! (1 ∷ []) $ use1 W (later (some (λ (δ : GName). ‵ (MutSlice (named 1) (β₁ ∷ []) Five .own (rows l₁₀ δ rs) (sliceVal (l₁₀, 0) (length rs) ∷ [])) ⊛ ‵ (flent (β₁ ∷ []) (Held Five (length rs) l₁₀ 0 δ))))) (lends-slice 𝓤 H A W Five (named 1) (β₁ ∷ []) rs l₁₀ 0 (full rs (long v₅ rs is₅))) $ await ! tt $ pick ! (λ ε₁. split ! $
         move ! (5 ∷ 3 ∷ 2 ∷ 0 ∷ []) $
-        group ! 4 $ use1 W (raw (ToRows 𝓤 H A mem′ run .pre (to-to-rows α₂ δ₂ β₁ ε₁ l₉ rs))) (goes-to-rows α₂ δ₂ β₁ ε₁ l₉ rs (small v₁ r₁ k p₁ is₁) (read-in n ys, subst (λ (j : ℕ). k ≤ j) (sym (long v₅ rs is₅)) (read-few n (length ys)))) $
-        -- [what the callee asks; their lender's part; its lender's part; its open borrow; obs; auth; _27; …; _10; …; what frees _9; _8; …; _0; …; the tables and their token]
-        calls-at ! fm (ToRows 𝓤 H A mem′ run) known-to-rows (to-to-rows α₂ δ₂ β₁ ε₁ l₉ rs) (and-then ! (load ! (from ! (stop !)) (look ! 24 refl)) (and-then ! (load ! (from ! (stop !)) (look ! 45 refl)) (and-then ! (load ! (from ! (stop !)) (look ! 20 refl)) (no-more !)))) (λ v₆.
-        use1 W (later (some (λ (r : Unit {0}). ((‵ (flft (α₂ ∷ []) fullShare) ⊛ (‵ (flft (β₁ ∷ []) fullShare) ⊛ ‵ ftrue)) ⊛ ‵ (unit .own r (v₆ ∷ []))) ⊛ raw (ensured 𝓤 H A to-rows.ended (to-rows.clauses 𝓤 H A mem′ run) (α₂ ∷ [], (β₁ ∷ [], tt)) (xs δ₂ ys, (k, (rows l₉ ε₁ rs, tt))) tt r)))) (id⊢ 𝓤 _) $ await ! tt $ pick ! (λ r₆.
-        split ! $ move ! (1 ∷ []) $ use1 W (some (λ (ws : Unit {0} × (Unit {0} × (List (List ℕ) × Unit {0}))). ‵ (lasts to-rows.ended (α₂ ∷ [], (β₁ ∷ [], tt)) (xs δ₂ ys, (k, (rows l₉ ε₁ rs, tt))) ws) ⊛ raw (fact 𝓤 (ws .1 .1 .0 ≡ paste rs 0 (map rowOf ys) k)))) (id⊢ 𝓤 _) $ pick ! (λ ws.
+        group ! 4 $ use1 W (raw (ToRows 𝓤 H A mem′ run .pre (to-to-rows α₂ δ₂ β₁ ε₁ l₁₀ rs))) (goes-to-rows α₂ δ₂ β₁ ε₁ l₁₀ rs (small v₁ r₁ k p₁ is₁) (read-in n ys, subst (λ (j : ℕ). k ≤ j) (sym (long v₅ rs is₅)) (read-few n (length ys)))) $
+        -- [what the callee asks; their lender's part; its lender's part; its open borrow; obs; auth; _28; …; _11; …; what frees _10; _9; …; _0; …; the tables and their token]
+        calls-at ! fm (ToRows 𝓤 H A mem′ run) known-to-rows (to-to-rows α₂ δ₂ β₁ ε₁ l₁₀ rs) (and-then ! (load ! (from ! (stop !)) (look ! 24 refl)) (and-then ! (load ! (from ! (stop !)) (look ! 45 refl)) (and-then ! (load ! (from ! (stop !)) (look ! 20 refl)) (no-more !)))) (λ v₆.
+        use1 W (later (some (λ (r : Unit {0}). ((‵ (flft (α₂ ∷ []) fullShare) ⊛ (‵ (flft (β₁ ∷ []) fullShare) ⊛ ‵ ftrue)) ⊛ ‵ (unit .own r (v₆ ∷ []))) ⊛ raw (ensured 𝓤 H A to-rows.ended (to-rows.clauses 𝓤 H A mem′ run) (α₂ ∷ [], (β₁ ∷ [], tt)) (xs δ₂ ys, (k, (rows l₁₀ ε₁ rs, tt))) tt r)))) (id⊢ 𝓤 _) $ await ! tt $ pick ! (λ r₆.
+        split ! $ move ! (1 ∷ []) $ use1 W (some (λ (ws : Unit {0} × (Unit {0} × (List (List ℕ) × Unit {0}))). ‵ (lasts to-rows.ended (α₂ ∷ [], (β₁ ∷ [], tt)) (xs δ₂ ys, (k, (rows l₁₀ ε₁ rs, tt))) ws) ⊛ raw (fact 𝓤 (ws .1 .1 .0 ≡ paste rs 0 (map rowOf ys) k)))) (id⊢ 𝓤 _) $ pick ! (λ ws.
         split ! $ move ! (1 ∷ []) $ heard ! (ws .1 .1 .0 ≡ paste rs 0 (map rowOf ys) k) (λ p₆. fsplit ! $ move ! (1 ∷ []) $ fsplit ! $ move ! (1 ∷ []) $ fsplit ! $ fsplit ! $ move ! (1 ∷ []) $ feqL ! (λ m₁. move ! (3 ∷ []) $ drop ! $ move ! (2 ∷ []) $ drop ! $ move ! (1 ∷ []) $ drop ! $
         move ! (1 ∷ []) $ split ! $ move ! (1 ∷ []) $ facts ! unit (Is unit) (shows 𝓤 H A unit) r₆ (v₆ ∷ []) (λ is₆. split ! $ move ! (1 ∷ []) $ split ! $ move ! (1 ∷ []) $ drop ! $ move ! (1 ∷ 4 ∷ []) $ lft-end ! tt $ lent-back ! tt $ fsplit ! $ drop ! $
-        move ! (1 ∷ []) $ lft-end ! tt $ move ! (0 ∷ 3 ∷ 2 ∷ []) $ use3 W (later (‵ (Arr (mem Five) (length rs) .lies (ws .1 .1 .0) l₉ 0))) (slice-back 𝓤 H A W Five (β₁ ∷ []) ε₁ (ws .1 .1 .0) (length rs) l₉ 0) $ await ! tt $ fsplit ! $ drop ! $ use1 W (‵ (row Five fullShare (ws .1 .1 .0) l₉ 0)) (whole-out 𝓤 H A W Five (ws .1 .1 .0) l₉ 0) $
-        feqI ! ℕ (length (ws .1 .1 .0)) 1024 (m₁ ∙ long v₅ rs is₅) $ fjoin ! $ use1 W (‵ (partAt B fullShare (ws .1 .1 .0) l₉ 0)) (array-whole 𝓤 H A W Five fullShare 1024 (ws .1 .1 .0) l₉ 0) $
+        move ! (1 ∷ []) $ lft-end ! tt $ move ! (0 ∷ 3 ∷ 2 ∷ []) $ use3 W (later (‵ (Arr (mem Five) (length rs) .lies (ws .1 .1 .0) l₁₀ 0))) (slice-back 𝓤 H A W Five (β₁ ∷ []) ε₁ (ws .1 .1 .0) (length rs) l₁₀ 0) $ await ! tt $ fsplit ! $ drop ! $ use1 W (‵ (row Five fullShare (ws .1 .1 .0) l₁₀ 0)) (whole-out 𝓤 H A W Five (ws .1 .1 .0) l₁₀ 0) $
+        feqI ! ℕ (length (ws .1 .1 .0)) 1024 (m₁ ∙ long v₅ rs is₅) $ fjoin ! $ use1 W (‵ (partAt B fullShare (ws .1 .1 .0) l₁₀ 0)) (array-whole 𝓤 H A W Five fullShare 1024 (ws .1 .1 .0) l₁₀ 0) $
         land ! (from ! (stop !)) (init ! 27 refl (nothing-lawful 𝓤 H A W .typed r₆ (v₆ ∷ []) is₆ .0)) $
-        -- [the rows; the row of the list; its open borrow; obs; auth; _27; …; _10; …; what frees _9; _8; …; _0; …; the tables and their token]
+        -- [the rows; the row of the list; its open borrow; obs; auth; _28; …; _11; …; what frees _10; _9; …; _0; …; the tables and their token]
         -- `&mut *tables` and `&mut rows`
-        assigns ! (addr ! (from ! (hop ! (look ! 54 refl) (stop !)))) (from ! (stop !)) (init ! 17 refl (tt, tt)) $
+        assigns ! (addr ! (from ! (hop ! (look ! 56 refl) (stop !)))) (from ! (stop !)) (init ! 17 refl (tt, tt)) $
         assigns ! (addr ! (from ! (stop !))) (from ! (stop !)) (init ! 15 refl (tt, tt)) $
         -- the tables go to `on_rows` for good; the rows are lent to it, as one array
-        lft-new ! tt (λ β₂. move ! (1 ∷ []) $ use1 W (later (some (λ (δ : GName). ‵ (MutRef (named 1) (β₂ ∷ []) B .own (rows l₉ δ (ws .1 .1 .0)) (vptr l₉ 0 ∷ [])) ⊛ ‵ (flent (β₂ ∷ []) (Body (mem B) l₉ 0 δ))))) (lends-ref 𝓤 H A W B (named 1) (β₂ ∷ []) (ws .1 .1 .0) l₉ 0) $ await ! tt $ pick ! (λ ε₂. split ! $
-        move ! (63 ∷ 2 ∷ 62 ∷ 0 ∷ []) $
-        group ! 4 $ use1 W (raw (OnRows 𝓤 H A mem′ run .pre (to-on-rows β₂ l₉ ε₂ (ws .1 .1 .0)))) (goes-on-rows β₂ l₉ ε₂ (ws .1 .1 .0) (zero-past n ys rs (ws .1 .1 .0) p₅ p₆)) $
-        -- [what the callee asks; their lender's part; the row of the list; its open borrow; obs; auth; _27; …; _10; …; what frees _9; _8; …; _0; …]
-        calls-at ! fm (OnRows 𝓤 H A mem′ run) known-on-rows (to-on-rows β₂ l₉ ε₂ (ws .1 .1 .0)) (and-then ! (load ! (from ! (stop !)) (look ! 57 refl)) (and-then ! (load ! (from ! (stop !)) (look ! 18 refl)) (and-then ! (load ! (from ! (stop !)) (look ! 16 refl)) (and-then ! (load ! (from ! (stop !)) (look ! 47 refl)) (and-then ! (load ! (from ! (stop !)) (look ! 51 refl)) (and-then ! (load ! (from ! (stop !)) (look ! 49 refl)) (no-more !))))))) (λ v₇.
-        use1 W (later (some (λ (r : Answer). ((‵ (flft κ₀ q₀) ⊛ (‵ (flft (β₂ ∷ []) fullShare) ⊛ ‵ ftrue)) ⊛ ‵ (K.the-row .own r (v₇ ∷ []))) ⊛ raw (ensured 𝓤 H A on-rows.ended (on-rows.clauses 𝓤 H A mem′ run) (κ₀, (β₂ ∷ [], tt)) (g, (t, (rows l₉ ε₂ (ws .1 .1 .0), (length ys, (n, (e, tt)))))) tt r)))) (id⊢ 𝓤 _) $ await ! tt $ pick ! (λ r₇.
-        split ! $ move ! (1 ∷ []) $ use1 W (some (λ (us : Unit {0} × (List (List (List ℕ)) × (List (List ℕ) × (Unit {0} × (Unit {0} × (Unit {0} × Unit {0})))))). ‵ (lasts on-rows.ended (κ₀, (β₂ ∷ [], tt)) (g, (t, (rows l₉ ε₂ (ws .1 .1 .0), (length ys, (n, (e, tt)))))) us) ⊛ raw (fact 𝓤 (Says r₇ (us .1 .0) (us .1 .1 .0) (ws .1 .1 .0))))) (id⊢ 𝓤 _) $ pick ! (λ us.
+        lft-new ! tt (λ β₂. move ! (1 ∷ []) $ use1 W (later (some (λ (δ : GName). ‵ (MutRef (named 1) (β₂ ∷ []) B .own (rows l₁₀ δ (ws .1 .1 .0)) (vptr l₁₀ 0 ∷ [])) ⊛ ‵ (flent (β₂ ∷ []) (Body (mem B) l₁₀ 0 δ))))) (lends-ref 𝓤 H A W B (named 1) (β₂ ∷ []) (ws .1 .1 .0) l₁₀ 0) $ await ! tt $ pick ! (λ ε₂. split ! $
+        move ! (65 ∷ 2 ∷ 64 ∷ 0 ∷ []) $
+        group ! 4 $ use1 W (raw (OnRows 𝓤 H A mem′ run .pre (to-on-rows β₂ l₁₀ ε₂ (ws .1 .1 .0)))) (goes-on-rows β₂ l₁₀ ε₂ (ws .1 .1 .0) (small v₀ r₀ c p₀ is₀) (code-few n (length ys), zero-past n ys rs (ws .1 .1 .0) p₅ p₆)) $
+        -- [what the callee asks; their lender's part; the row of the list; its open borrow; obs; auth; _28; …; _11; …; what frees _10; _9; …; _0; …]
+        calls-at ! fm (OnRows 𝓤 H A mem′ run) known-on-rows (to-on-rows β₂ l₁₀ ε₂ (ws .1 .1 .0)) (and-then ! (load ! (from ! (stop !)) (look ! 59 refl)) (and-then ! (load ! (from ! (stop !)) (look ! 18 refl)) (and-then ! (load ! (from ! (stop !)) (look ! 16 refl)) (and-then ! (load ! (from ! (stop !)) (look ! 47 refl)) (and-then ! (load ! (from ! (stop !)) (look ! 53 refl)) (and-then ! (load ! (from ! (stop !)) (look ! 51 refl)) (no-more !))))))) (λ v₇.
+        use1 W (later (some (λ (r : Answer). ((‵ (flft κ₀ q₀) ⊛ (‵ (flft (β₂ ∷ []) fullShare) ⊛ ‵ ftrue)) ⊛ ‵ (K.the-row .own r (v₇ ∷ []))) ⊛ raw (ensured 𝓤 H A on-rows.ended (on-rows.clauses 𝓤 H A mem′ run) (κ₀, (β₂ ∷ [], tt)) (g, (t, (rows l₁₀ ε₂ (ws .1 .1 .0), (c, (n, (e, tt)))))) tt r)))) (id⊢ 𝓤 _) $ await ! tt $ pick ! (λ r₇.
+        split ! $ move ! (1 ∷ []) $ use1 W (some (λ (us : Unit {0} × (List (List (List ℕ)) × (List (List ℕ) × (Unit {0} × (Unit {0} × (Unit {0} × Unit {0})))))). ‵ (lasts on-rows.ended (κ₀, (β₂ ∷ [], tt)) (g, (t, (rows l₁₀ ε₂ (ws .1 .1 .0), (c, (n, (e, tt)))))) us) ⊛ raw (fact 𝓤 (Says r₇ (us .1 .0) (us .1 .1 .0) (ws .1 .1 .0))))) (id⊢ 𝓤 _) $ pick ! (λ us.
         split ! $ move ! (1 ∷ []) $ heard ! (Says r₇ (us .1 .0) (us .1 .1 .0) (ws .1 .1 .0)) (λ p₇. fsplit ! $ move ! (1 ∷ []) $ fsplit ! $ move ! (1 ∷ []) $ fsplit ! $ move ! (3 ∷ []) $ drop ! $ move ! (1 ∷ []) $ drop ! $
         move ! (2 ∷ []) $ split ! $ move ! (1 ∷ []) $ facts ! K.the-row (Is K.the-row) (shows 𝓤 H A K.the-row) r₇ (v₇ ∷ []) (λ is₇. split ! $ move ! (1 ∷ []) $ split ! $ move ! (1 ∷ []) $ drop ! $
-        lft-end ! tt $ move ! (0 ∷ 4 ∷ 2 ∷ []) $ use3 W (later (‵ (mem B .lies (us .1 .1 .0) l₉ 0))) (ref-back 𝓤 H A W B (β₂ ∷ []) ε₂ (us .1 .1 .0) l₉ 0) $ await ! tt $
-        use1 W (‵ (arr-parts (shares Five) 1024 .part fullShare (us .1 .1 .0) l₉ 0)) (array-apart 𝓤 H A W Five fullShare tt 1024 (us .1 .1 .0) l₉ 0) $ fsplit ! $ feqL ! (λ m₂.
+        lft-end ! tt $ move ! (0 ∷ 4 ∷ 2 ∷ []) $ use3 W (later (‵ (mem B .lies (us .1 .1 .0) l₁₀ 0))) (ref-back 𝓤 H A W B (β₂ ∷ []) ε₂ (us .1 .1 .0) l₁₀ 0) $ await ! tt $
+        use1 W (‵ (arr-parts (shares Five) 1024 .part fullShare (us .1 .1 .0) l₁₀ 0)) (array-apart 𝓤 H A W Five fullShare tt 1024 (us .1 .1 .0) l₁₀ 0) $ fsplit ! $ feqL ! (λ m₂.
         land ! (from ! (stop !)) (init ! 41 refl (LL.lawful K.the-type K′.the-laws 𝓤 H A W .typed r₇ (v₇ ∷ []) is₇ .0)) $
-        rewrite ! 41 (λ (u : Val). ‵ (fat fullShare K′.mir l₁₀ 0 u)) (ap only (known-answer v₇ r₇ is₇)) refl $
-        -- [the rows, one by one; the tables' token; their last value; the row of the list; its open borrow; obs; auth; _27; …; _10; …; what frees _9; _8; …; _0; …]
+        rewrite ! 41 (λ (u : Val). ‵ (fat fullShare K′.mir l₁₁ 0 u)) (ap only (known-answer v₇ r₇ is₇)) refl $
+        -- [the rows, one by one; the tables' token; their last value; the row of the list; its open borrow; obs; auth; _28; …; _11; …; what frees _10; _9; …; _0; …]
         -- `&mut *list`; where it is rewritten from; `&rows`
-        assigns ! (addr ! (from ! (fld ! refl (hop ! (look-in ! 54 (sub ! 0 refl (whole !))) (stop !))))) (from ! (stop !)) (init ! 15 refl (tt, tt)) $
-        assigns ! (agg ! (and-then ! (load ! (from ! (stop !)) (look ! 15 refl)) (and-then ! (load ! (from ! (fld ! refl (stop !))) (look-in ! 54 (sub ! 1 refl (whole !)))) (no-more !)))) (from ! (stop !)) (init ! 13 refl (tt, (tt, (record { fits = room .0 }, tt)))) $
+        assigns ! (addr ! (from ! (fld ! refl (hop ! (look-in ! 56 (sub ! 0 refl (whole !))) (stop !))))) (from ! (stop !)) (init ! 15 refl (tt, tt)) $
+        assigns ! (agg ! (and-then ! (load ! (from ! (stop !)) (look ! 15 refl)) (and-then ! (load ! (from ! (fld ! refl (stop !))) (look-in ! 56 (sub ! 1 refl (whole !)))) (no-more !)))) (from ! (stop !)) (init ! 13 refl (tt, (tt, (record { fits = room .0 }, tt)))) $
         use0 W (raw (ChangedFrom 𝓤 H A mem′ run .pre (to-changed-from r₇ v₄))) (goes-changed-from r₇ v₄ (code-small v₇ r₇ is₇) (subst (λ (f : Found). Is F.the-row f (v₄ ∷ [])) p₄ is₄)) $
-        calls-at ! fm (ChangedFrom 𝓤 H A mem′ run) known-changed-from (to-changed-from r₇ v₄) (and-then ! (load ! (from ! (fld ! refl (stop !))) (look-in ! 42 (sub ! 0 refl (whole !)))) (and-then ! (load ! (from ! (stop !)) (look ! 45 refl)) (and-then ! (load ! (from ! (stop !)) (look ! 53 refl)) (and-then ! (load ! (from ! (stop !)) (look ! 49 refl)) (no-more !))))) (λ v₈.
+        calls-at ! fm (ChangedFrom 𝓤 H A mem′ run) known-changed-from (to-changed-from r₇ v₄) (and-then ! (load ! (from ! (fld ! refl (stop !))) (look-in ! 42 (sub ! 0 refl (whole !)))) (and-then ! (load ! (from ! (stop !)) (look ! 45 refl)) (and-then ! (load ! (from ! (stop !)) (look ! 55 refl)) (and-then ! (load ! (from ! (stop !)) (look ! 51 refl)) (no-more !))))) (λ v₈.
         use1 W (later (some (λ (r : ℕ). (‵ ftrue ⊛ ‵ (usize .own r (v₈ ∷ []))) ⊛ raw (ensured 𝓤 H A changed-from.ended (changed-from.clauses 𝓤 H A mem′ run) tt (r₇ .code, (place, (n, (length ys, tt)))) tt r)))) (id⊢ 𝓤 _) $ await ! tt $ pick ! (λ r₈.
         split ! $ move ! (1 ∷ []) $ use1 W (raw (fact 𝓤 (r₈ ≡ start r₇))) (said-changed-from r₇ r₈) $ heard ! (r₈ ≡ start r₇) (λ p₈. split ! $ drop ! $ facts ! usize (Is usize) (shows 𝓤 H A usize) r₈ (v₈ ∷ []) (λ is₈.
         land ! (from ! (stop !)) (init ! 11 refl (uint-lawful 𝓤 H A W w64 .typed r₈ (v₈ ∷ []) is₈ .0)) $
-        rewrite ! 11 (λ (u : Val). ‵ (fat fullShare (tyInt w64) l₂₅ 0 u)) (number v₈ r₈ (start r₇) p₈ is₈) refl $
+        rewrite ! 11 (λ (u : Val). ‵ (fat fullShare (tyInt w64) l₂₆ 0 u)) (number v₈ r₈ (start r₇) p₈ is₈) refl $
         assigns ! (addr ! (from ! (stop !))) (from ! (stop !)) (init ! 9 refl (tt, tt)) $
         assigns ! (agg ! (and-then ! (load ! (from ! (stop !)) (look ! 9 refl)) (and-then ! (big ! (record { fits = lit< tt })) (no-more !)))) (from ! (stop !)) (init ! 7 refl (tt, (tt, (record { fits = lit< tt }, tt)))) $
-        rewrite ! 7 (λ (j : ℕ). ‵ (fat fullShare (sliceTy (tyRef erased imm (pointee (Five .written)))) l₂₇ 0 (sliceVal (l₉, 0) j))) (sym m₂) refl $
+        rewrite ! 7 (λ (j : ℕ). ‵ (fat fullShare (sliceTy (tyRef erased imm (pointee (Five .written)))) l₂₈ 0 (sliceVal (l₁₀, 0) j))) (sym m₂) refl $
         -- the rows are lent as `&`, and the list, closed, goes for good, to `rewrite`
-        feqI ! ℕ (length (us .1 .1 .0)) (length (us .1 .1 .0)) refl $ fjoin ! $ lft-new ! tt (λ β₃. move ! (1 ∷ []) $ use1 W (later (some (λ (δ : GName). ‵ (ShrSlice (named 1) (β₃ ∷ []) Five .own (rows l₉ δ (us .1 .1 .0)) (sliceVal (l₉, 0) (length (us .1 .1 .0)) ∷ [])) ⊛ ‵ (flent (β₃ ∷ []) (arr-parts (shares Five) (length (us .1 .1 .0)) .part fullShare (us .1 .1 .0) l₉ 0))))) (lends-shr-slice 𝓤 H A W Five (named 1) (β₃ ∷ []) fullShare (us .1 .1 .0) l₉ 0 (full (us .1 .1 .0) m₂)) $ await ! tt $ pick ! (λ ε₃. split ! $
+        feqI ! ℕ (length (us .1 .1 .0)) (length (us .1 .1 .0)) refl $ fjoin ! $ lft-new ! tt (λ β₃. move ! (1 ∷ []) $ use1 W (later (some (λ (δ : GName). ‵ (ShrSlice (named 1) (β₃ ∷ []) Five .own (rows l₁₀ δ (us .1 .1 .0)) (sliceVal (l₁₀, 0) (length (us .1 .1 .0)) ∷ [])) ⊛ ‵ (flent (β₃ ∷ []) (arr-parts (shares Five) (length (us .1 .1 .0)) .part fullShare (us .1 .1 .0) l₁₀ 0))))) (lends-shr-slice 𝓤 H A W Five (named 1) (β₃ ∷ []) fullShare (us .1 .1 .0) l₁₀ 0 (full (us .1 .1 .0) m₂)) $ await ! tt $ pick ! (λ ε₃. split ! $
         move ! (5 ∷ 6 ∷ 7 ∷ 8 ∷ []) $ closes-slice ! tt T.the-row ys ys refl bk o $ fjoin ! $ pureI ! (at-slice T.the-row (xs γ ys) (s ∷ [])) (tt, (tt, tt)) (refl, room) $ fjoin ! $
         move ! (1 ∷ 0 ∷ 4 ∷ 2 ∷ []) $
-        group ! 4 $ use1 W (raw (Rewrite 𝓤 H A mem′ run .pre (to-rewrite r₇ β₃ ε₃ l₉ (us .1 .1 .0)))) (goes-rewrite r₇ β₃ ε₃ l₉ (us .1 .1 .0) (small v₈ r₈ (start r₇) p₈ is₈) (from-in g (t .now) ys n e r₇ (us .1 .0) rs (ws .1 .1 .0) (us .1 .1 .0) p₅ p₆ p₇, from-full g (t .now) ys n e r₇ (us .1 .0) rs (ws .1 .1 .0) (us .1 .1 .0) p₅ p₆ p₇ m₂)) $
-        -- [what the callee asks; their lender's part; the tables' token; their last value; _27; …; _10; …; what frees _9; _8; …; _0; …]
-        calls-at ! fm (Rewrite 𝓤 H A mem′ run) known-rewrite (to-rewrite r₇ β₃ ε₃ l₉ (us .1 .1 .0)) (and-then ! (load ! (from ! (stop !)) (look ! 10 refl)) (and-then ! (load ! (from ! (stop !)) (look ! 8 refl)) (and-then ! (load ! (from ! (stop !)) (look ! 4 refl)) (no-more !)))) (λ v₉.
-        use1 W (later (some (λ (r : Unit {0}). ((‵ (flft κ₁ q₁) ⊛ (‵ (flft (β₃ ∷ []) fullShare) ⊛ ‵ ftrue)) ⊛ ‵ (unit .own r (v₉ ∷ []))) ⊛ raw (ensured 𝓤 H A rewrite′.ended (rewrite′.clauses 𝓤 H A mem′ run) (κ₁, (β₃ ∷ [], tt)) (xs γ ys, (start r₇, (rows l₉ ε₃ (us .1 .1 .0), tt))) tt r)))) (id⊢ 𝓤 _) $ await ! tt $ pick ! (λ r₉.
-        split ! $ move ! (1 ∷ []) $ use1 W (some (λ (zs : List Message × (Unit {0} × (Unit {0} × Unit {0}))). ‵ (lasts rewrite′.ended (κ₁, (β₃ ∷ [], tt)) (xs γ ys, (start r₇, (rows l₉ ε₃ (us .1 .1 .0), tt))) zs) ⊛ raw (fact 𝓤 (zs .0 ≡ paste ys (start r₇) (past (start r₇) (map messageOf (us .1 .1 .0))) (length ys - start r₇))))) (id⊢ 𝓤 _) $ pick ! (λ zs.
+        group ! 4 $ use1 W (raw (Rewrite 𝓤 H A mem′ run .pre (to-rewrite r₇ β₃ ε₃ l₁₀ (us .1 .1 .0)))) (goes-rewrite r₇ β₃ ε₃ l₁₀ (us .1 .1 .0) (small v₈ r₈ (start r₇) p₈ is₈) (from-in g (t .now) ys n e r₇ (us .1 .0) rs (ws .1 .1 .0) (us .1 .1 .0) p₅ p₆ p₇, from-full g (t .now) ys n e r₇ (us .1 .0) rs (ws .1 .1 .0) (us .1 .1 .0) p₅ p₆ p₇ m₂)) $
+        -- [what the callee asks; their lender's part; the tables' token; their last value; _28; …; _11; …; what frees _10; _9; …; _0; …]
+        calls-at ! fm (Rewrite 𝓤 H A mem′ run) known-rewrite (to-rewrite r₇ β₃ ε₃ l₁₀ (us .1 .1 .0)) (and-then ! (load ! (from ! (stop !)) (look ! 10 refl)) (and-then ! (load ! (from ! (stop !)) (look ! 8 refl)) (and-then ! (load ! (from ! (stop !)) (look ! 4 refl)) (no-more !)))) (λ v₉.
+        use1 W (later (some (λ (r : Unit {0}). ((‵ (flft κ₁ q₁) ⊛ (‵ (flft (β₃ ∷ []) fullShare) ⊛ ‵ ftrue)) ⊛ ‵ (unit .own r (v₉ ∷ []))) ⊛ raw (ensured 𝓤 H A rewrite′.ended (rewrite′.clauses 𝓤 H A mem′ run) (κ₁, (β₃ ∷ [], tt)) (xs γ ys, (start r₇, (rows l₁₀ ε₃ (us .1 .1 .0), tt))) tt r)))) (id⊢ 𝓤 _) $ await ! tt $ pick ! (λ r₉.
+        split ! $ move ! (1 ∷ []) $ use1 W (some (λ (zs : List Message × (Unit {0} × (Unit {0} × Unit {0}))). ‵ (lasts rewrite′.ended (κ₁, (β₃ ∷ [], tt)) (xs γ ys, (start r₇, (rows l₁₀ ε₃ (us .1 .1 .0), tt))) zs) ⊛ raw (fact 𝓤 (zs .0 ≡ paste ys (start r₇) (past (start r₇) (map messageOf (us .1 .1 .0))) (length ys - start r₇))))) (id⊢ 𝓤 _) $ pick ! (λ zs.
         split ! $ move ! (1 ∷ []) $ heard ! (zs .0 ≡ paste ys (start r₇) (past (start r₇) (map messageOf (us .1 .1 .0))) (length ys - start r₇)) (λ p₉. fsplit ! $ fsplit ! $ move ! (1 ∷ []) $ feqL ! (λ m₃. move ! (1 ∷ []) $ drop ! $
         move ! (1 ∷ []) $ split ! $ move ! (1 ∷ []) $ facts ! unit (Is unit) (shows 𝓤 H A unit) r₉ (v₉ ∷ []) (λ is₉. split ! $ move ! (1 ∷ []) $ split ! $ move ! (1 ∷ []) $ drop ! $ move ! (0 ∷ 3 ∷ []) $ lft-end ! tt $ lent-back ! tt $ fsplit ! $ drop ! $
-        use1 W (given (Is B (us .1 .1 .0) (all (us .1 .1 .0))) (‵ (fat fullShare arr l₉ 0 (only (all (us .1 .1 .0)))))) (together 𝓤 H A W (us .1 .1 .0) l₉ m₂) $ learn ! (λ g₃.
+        use1 W (given (Is B (us .1 .1 .0) (all (us .1 .1 .0))) (‵ (fat fullShare arr l₁₀ 0 (only (all (us .1 .1 .0)))))) (together 𝓤 H A W (us .1 .1 .0) l₁₀ m₂) $ learn ! (λ g₃.
         land ! (from ! (stop !)) (store ! 27 refl (nothing-lawful 𝓤 H A W .typed r₉ (v₉ ∷ []) is₉ .0)) $
-        -- [_9; the list's token; its last list; the tables' token; their last value; _27; …; _10; …; what frees _9; _8; …; _0; …]
-        assigns ! (of-opd ! (load ! (from ! (stop !)) (look ! 39 refl))) (from ! (stop !)) (init ! 58 refl (LL.lawful K.the-type K′.the-laws 𝓤 H A W .typed r₇ (answer-vals r₇) (answer-is v₇ r₇ is₇) .0)) $
-        returns ! (look ! 58 refl) $
-        forget ! 58 refl $ forget ! 56 refl $ forget ! 54 refl $ forget ! 52 refl $ forget ! 50 refl $ forget ! 48 refl $ forget ! 46 refl $ forget ! 44 refl $ forget ! 42 refl $ forget ! 0 refl $ forget ! 39 refl $ forget ! 37 refl $ forget ! 35 refl $ forget ! 33 refl $ forget ! 31 refl $ forget ! 29 refl $ forget ! 27 refl $ forget ! 25 refl $ forget ! 23 refl $ forget ! 21 refl $ forget ! 19 refl $ forget ! 17 refl $ forget ! 15 refl $ forget ! 13 refl $ forget ! 11 refl $ forget ! 9 refl $ forget ! 7 refl $ forget ! 5 refl $
-        move ! (58 ∷ 59 ∷ []) $ free1 ! $ move ! (56 ∷ 57 ∷ []) $ free1 ! $ move ! (54 ∷ 55 ∷ []) $ free1 ! $ move ! (52 ∷ 53 ∷ []) $ free1 ! $ move ! (50 ∷ 51 ∷ []) $ free1 ! $ move ! (48 ∷ 49 ∷ []) $ free1 ! $ move ! (46 ∷ 47 ∷ []) $ free1 ! $ move ! (44 ∷ 45 ∷ []) $ free1 ! $ move ! (42 ∷ 43 ∷ []) $ free1 ! $ move ! (0 ∷ 41 ∷ []) $ free1 ! $ move ! (38 ∷ 39 ∷ []) $ free1 ! $ move ! (36 ∷ 37 ∷ []) $ free1 ! $ move ! (34 ∷ 35 ∷ []) $ free1 ! $ move ! (32 ∷ 33 ∷ []) $ free1 ! $ move ! (30 ∷ 31 ∷ []) $ free1 ! $ move ! (28 ∷ 29 ∷ []) $ free1 ! $ move ! (26 ∷ 27 ∷ []) $ free1 ! $ move ! (24 ∷ 25 ∷ []) $ free1 ! $ move ! (22 ∷ 23 ∷ []) $ free1 ! $ move ! (20 ∷ 21 ∷ []) $ free1 ! $ move ! (18 ∷ 19 ∷ []) $ free1 ! $ move ! (16 ∷ 17 ∷ []) $ free1 ! $ move ! (14 ∷ 15 ∷ []) $ free1 ! $ move ! (12 ∷ 13 ∷ []) $ free1 ! $ move ! (10 ∷ 11 ∷ []) $ free1 ! $ move ! (8 ∷ 9 ∷ []) $ free1 ! $ move ! (6 ∷ 7 ∷ []) $ free1 ! $ move ! (4 ∷ 5 ∷ []) $ free1 ! $ free0 ! $
-        keep ! (2 ∷ 0 ∷ 3 ∷ 1 ∷ []) $ by ! (exits r₇ (us .1 .0) (zs .0) m₃ (joined g (t .now) ys n e r₇ (us .1 .0) rs (ws .1 .1 .0) (us .1 .1 .0) p₅ p₆ p₇ (zs .0) p₉) (answer-is v₇ r₇ is₇)))))))))))))))))))))))))))))))))))))))))))))))))))))))))))))))))))))))))))))))))))
+        -- [_10; the list's token; its last list; the tables' token; their last value; _28; …; _11; …; what frees _10; _9; …; _0; …]
+        assigns ! (of-opd ! (load ! (from ! (stop !)) (look ! 39 refl))) (from ! (stop !)) (init ! 60 refl (LL.lawful K.the-type K′.the-laws 𝓤 H A W .typed r₇ (answer-vals r₇) (answer-is v₇ r₇ is₇) .0)) $
+        returns ! (look ! 60 refl) $
+        forget ! 60 refl $ forget ! 58 refl $ forget ! 56 refl $ forget ! 54 refl $ forget ! 52 refl $ forget ! 50 refl $ forget ! 48 refl $ forget ! 46 refl $ forget ! 44 refl $ forget ! 42 refl $ forget ! 0 refl $ forget ! 39 refl $ forget ! 37 refl $ forget ! 35 refl $ forget ! 33 refl $ forget ! 31 refl $ forget ! 29 refl $ forget ! 27 refl $ forget ! 25 refl $ forget ! 23 refl $ forget ! 21 refl $ forget ! 19 refl $ forget ! 17 refl $ forget ! 15 refl $ forget ! 13 refl $ forget ! 11 refl $ forget ! 9 refl $ forget ! 7 refl $ forget ! 5 refl $
+        move ! (60 ∷ 61 ∷ []) $ free1 ! $ move ! (58 ∷ 59 ∷ []) $ free1 ! $ move ! (56 ∷ 57 ∷ []) $ free1 ! $ move ! (54 ∷ 55 ∷ []) $ free1 ! $ move ! (52 ∷ 53 ∷ []) $ free1 ! $ move ! (50 ∷ 51 ∷ []) $ free1 ! $ move ! (48 ∷ 49 ∷ []) $ free1 ! $ move ! (46 ∷ 47 ∷ []) $ free1 ! $ move ! (44 ∷ 45 ∷ []) $ free1 ! $ move ! (42 ∷ 43 ∷ []) $ free1 ! $ move ! (0 ∷ 41 ∷ []) $ free1 ! $ move ! (38 ∷ 39 ∷ []) $ free1 ! $ move ! (36 ∷ 37 ∷ []) $ free1 ! $ move ! (34 ∷ 35 ∷ []) $ free1 ! $ move ! (32 ∷ 33 ∷ []) $ free1 ! $ move ! (30 ∷ 31 ∷ []) $ free1 ! $ move ! (28 ∷ 29 ∷ []) $ free1 ! $ move ! (26 ∷ 27 ∷ []) $ free1 ! $ move ! (24 ∷ 25 ∷ []) $ free1 ! $ move ! (22 ∷ 23 ∷ []) $ free1 ! $ move ! (20 ∷ 21 ∷ []) $ free1 ! $ move ! (18 ∷ 19 ∷ []) $ free1 ! $ move ! (16 ∷ 17 ∷ []) $ free1 ! $ move ! (14 ∷ 15 ∷ []) $ free1 ! $ move ! (12 ∷ 13 ∷ []) $ free1 ! $ move ! (10 ∷ 11 ∷ []) $ free1 ! $ move ! (8 ∷ 9 ∷ []) $ free1 ! $ move ! (6 ∷ 7 ∷ []) $ free1 ! $ move ! (4 ∷ 5 ∷ []) $ free1 ! $ free0 ! $
+        keep ! (2 ∷ 0 ∷ 3 ∷ 1 ∷ []) $ by ! (exits r₇ (us .1 .0) (zs .0) m₃ (joined g (t .now) ys n e r₇ (us .1 .0) rs (ws .1 .1 .0) (us .1 .1 .0) p₅ p₆ p₇ (zs .0) p₉) (answer-is v₇ r₇ is₇))))))))))))))))))))))))))))))))))))))))))))))))))))))))))))))))))))))))))))))))))))))))
       where
         long : (v : Val) (rs : List (List ℕ)) → Is B rs (v ∷ []) → length rs ≡ 1024
         long v rs is = is .1 .0 .1
@@ -502,15 +528,15 @@ module _ {M : Type 1} (𝓤 : URA M) (H : Heap 𝓤) (A : Atoms 𝓤) (W : Given
         code-small v r is = LL.owed K.the-type K′.the-laws r (v ∷ []) is .0 .1
 
 module _ {M : Type 1} (𝓤 : URA M) (H : Heap 𝓤) (A : Atoms 𝓤) (W : Given 𝓤 H A) (mem′ : Memory → SProp 𝓤) (run : Routine → Fun 𝓤) where
-  event-walks : (C : Calls 𝓤 H) (Λ : Loops 𝓤 H) → FmC 𝓤 H (W .laws) C → Triple 𝓤 (C #engine-parts·read-count) (ReadCount 𝓤 H A mem′ run) → Triple 𝓤 (C #engine-parts·sender) (Sender 𝓤 H A mem′ run) → Triple 𝓤 (C #engine-parts·receiver) (Receiver 𝓤 H A mem′ run) → Triple 𝓤 (C #list-lent·first) (First 𝓤 H A mem′ run) → Triple 𝓤 (C #engine-parts·blank-rows) (Blank 𝓤 H A mem′ run) → Triple 𝓤 (C #list-copy·to-rows) (ToRows 𝓤 H A mem′ run) → Triple 𝓤 (C #engine-parts·on-rows) (OnRows 𝓤 H A mem′ run) → Triple 𝓤 (C #engine-parts·changed-from) (ChangedFrom 𝓤 H A mem′ run) → Triple 𝓤 (C #list-copy·rewrite) (Rewrite 𝓤 H A mem′ run)
+  event-walks : (C : Calls 𝓤 H) (Λ : Loops 𝓤 H) → FmC 𝓤 H (W .laws) C → Triple 𝓤 (C #engine-parts·list-code) (ListCode 𝓤 H A mem′ run) → Triple 𝓤 (C #engine-parts·read-count) (ReadCount 𝓤 H A mem′ run) → Triple 𝓤 (C #engine-parts·sender) (Sender 𝓤 H A mem′ run) → Triple 𝓤 (C #engine-parts·receiver) (Receiver 𝓤 H A mem′ run) → Triple 𝓤 (C #list-lent·first) (First 𝓤 H A mem′ run) → Triple 𝓤 (C #engine-parts·blank-rows) (Blank 𝓤 H A mem′ run) → Triple 𝓤 (C #list-copy·to-rows) (ToRows 𝓤 H A mem′ run) → Triple 𝓤 (C #engine-parts·on-rows) (OnRows 𝓤 H A mem′ run) → Triple 𝓤 (C #engine-parts·changed-from) (ChangedFrom 𝓤 H A mem′ run) → Triple 𝓤 (C #list-copy·rewrite) (Rewrite 𝓤 H A mem′ run)
       → Walks 𝓤 H A event.ended stayed (WpFn 𝓤 H C Λ code.function) (event.clauses 𝓤 H A mem′ run)
-  event-walks C Λ fm k₁ k₂ k₃ k₄ k₅ k₆ k₇ k₈ k₉ = walked 𝓤 H A event.ended stayed (event.clauses 𝓤 H A mem′ run) (WpFn 𝓤 H C Λ code.function)
+  event-walks C Λ fm k₀ k₁ k₂ k₃ k₄ k₅ k₆ k₇ k₈ k₉ = walked 𝓤 H A event.ended stayed (event.clauses 𝓤 H A mem′ run) (WpFn 𝓤 H C Λ code.function)
       (λ κs. (rig-vals, (ptr-vals, (slice-vals, (uint-vals w64, (event-vals, tt))))))
       (λ κs. (LL.tells G.the-type G′.the-laws, (mut-tells (named 0) (κs .0) Tabs, (mut-slice-tells (named 1) (κs .1 .0) T.the-row, (uint-tells w64, (EL.tells E.the-type E′.the-laws, tt))))))
       (λ κs qs bounds a g are. via 𝓤 _ (fst∗ 𝓤 _ (emp 𝓤))
       (walk 𝓤 H A W mem′ run (κs .0) (κs .1 .0) (qs .0) (qs .1 .0) (a .0) (a .1 .0)
       (a .1 .1 .0 .ptr .0) (a .1 .1 .0 .ptr .1) (a .1 .1 .0 .name) (a .1 .1 .0 .now) (a .1 .1 .1 .0) (a .1 .1 .1 .1 .0)
-      (are .0) (are .1 .1 .0 .0 .1) (are .1 .1 .1 .0 .1) (are .1 .1 .1 .1 .0) C Λ fm k₁ k₂ k₃ k₄ k₅ k₆ k₇ k₈ k₉))
+      (are .0) (are .1 .1 .0 .0 .1) (are .1 .1 .1 .0 .1) (are .1 .1 .1 .1 .0) C Λ fm k₀ k₁ k₂ k₃ k₄ k₅ k₆ k₇ k₈ k₉))
 
   goes : AllGo 𝓤 H A W 2 (event.signature .params) (event.ended .kept) stayed
   goes = (
@@ -518,11 +544,11 @@ module _ {M : Type 1} (𝓤 : URA M) (H : Heap 𝓤) (A : Atoms 𝓤) (W : Given
     (goes-gave-ref 𝓤 H A W 2 0 tt tabs, (goes-gave-slice 𝓤 H A W 2 1 tt (plain (λ _. T.the-row)), (goes-dropped 𝓤 H A W 2 (plain (λ _. usize)) yes (λ κs x f. refl), (goes-dropped 𝓤 H A W 2 (plain (λ _. E.the-row)) yes (λ κs x f. refl), tt)))),
   )
 
-event-meets : {M : Type 1} (𝓤 : URA M) (H : Heap 𝓤) (A : Atoms 𝓤) (W : Given 𝓤 H A) (mem′ : Memory → SProp 𝓤) (run : Routine → Fun 𝓤) (𝓣 : Tables 𝓤 H) → Triple 𝓤 (𝓣 .C #engine-parts·read-count) (ReadCount 𝓤 H A mem′ run) → Triple 𝓤 (𝓣 .C #engine-parts·sender) (Sender 𝓤 H A mem′ run) → Triple 𝓤 (𝓣 .C #engine-parts·receiver) (Receiver 𝓤 H A mem′ run) → Triple 𝓤 (𝓣 .C #list-lent·first) (First 𝓤 H A mem′ run) → Triple 𝓤 (𝓣 .C #engine-parts·blank-rows) (Blank 𝓤 H A mem′ run) → Triple 𝓤 (𝓣 .C #list-copy·to-rows) (ToRows 𝓤 H A mem′ run) → Triple 𝓤 (𝓣 .C #engine-parts·on-rows) (OnRows 𝓤 H A mem′ run) → Triple 𝓤 (𝓣 .C #engine-parts·changed-from) (ChangedFrom 𝓤 H A mem′ run) → Triple 𝓤 (𝓣 .C #list-copy·rewrite) (Rewrite 𝓤 H A mem′ run)
+event-meets : {M : Type 1} (𝓤 : URA M) (H : Heap 𝓤) (A : Atoms 𝓤) (W : Given 𝓤 H A) (mem′ : Memory → SProp 𝓤) (run : Routine → Fun 𝓤) (𝓣 : Tables 𝓤 H) → Triple 𝓤 (𝓣 .C #engine-parts·list-code) (ListCode 𝓤 H A mem′ run) → Triple 𝓤 (𝓣 .C #engine-parts·read-count) (ReadCount 𝓤 H A mem′ run) → Triple 𝓤 (𝓣 .C #engine-parts·sender) (Sender 𝓤 H A mem′ run) → Triple 𝓤 (𝓣 .C #engine-parts·receiver) (Receiver 𝓤 H A mem′ run) → Triple 𝓤 (𝓣 .C #list-lent·first) (First 𝓤 H A mem′ run) → Triple 𝓤 (𝓣 .C #engine-parts·blank-rows) (Blank 𝓤 H A mem′ run) → Triple 𝓤 (𝓣 .C #list-copy·to-rows) (ToRows 𝓤 H A mem′ run) → Triple 𝓤 (𝓣 .C #engine-parts·on-rows) (OnRows 𝓤 H A mem′ run) → Triple 𝓤 (𝓣 .C #engine-parts·changed-from) (ChangedFrom 𝓤 H A mem′ run) → Triple 𝓤 (𝓣 .C #list-copy·rewrite) (Rewrite 𝓤 H A mem′ run)
     → Meets 𝓤 H A event.signature (WpFn 𝓤 H (𝓣 .C) (𝓣 .Λ) code.function) (event.spec 𝓤 H A mem′ run)
-event-meets 𝓤 H A W mem′ run 𝓣 k₁ k₂ k₃ k₄ k₅ k₆ k₇ k₈ k₉ =
+event-meets 𝓤 H A W mem′ run 𝓣 k₀ k₁ k₂ k₃ k₄ k₅ k₆ k₇ k₈ k₉ =
     walk-meets 𝓤 H A event.ended stayed W (goes 𝓤 H A W mem′ run) (event.clauses 𝓤 H A mem′ run)
-    (WpFn 𝓤 H (𝓣 .C) (𝓣 .Λ) code.function) (WpFn-mono 𝓤 H (W .laws) 𝓣 code.function) (event-walks 𝓤 H A W mem′ run (𝓣 .C) (𝓣 .Λ) (fmOf 𝓤 H (W .laws) 𝓣) k₁ k₂ k₃ k₄ k₅ k₆ k₇ k₈ k₉)
+    (WpFn 𝓤 H (𝓣 .C) (𝓣 .Λ) code.function) (WpFn-mono 𝓤 H (W .laws) 𝓣 code.function) (event-walks 𝓤 H A W mem′ run (𝓣 .C) (𝓣 .Λ) (fmOf 𝓤 H (W .laws) 𝓣) k₀ k₁ k₂ k₃ k₄ k₅ k₆ k₇ k₈ k₉)
 
 pub event-spec : {M : Type 1} → stated.statement M
 unfolding code.routine tablesOf
@@ -530,6 +556,7 @@ event-spec 𝓤 H 𝓜 𝓖 𝓡 =
     entered 𝓤 H (tripleOf 𝓤 H (𝓖 .A) event.signature (event.spec 𝓤 H (𝓖 .A) (𝓜 .mem) (𝓡 .run)))
     (tables 𝓤 H 𝓜 𝓡 code.env .C) (tables 𝓤 H 𝓜 𝓡 code.env .Λ) #engine·event code.function (code.unfolded 𝓤 H 𝓜 𝓡)
     (event-meets 𝓤 H (𝓖 .A) (givenOf 𝓤 H 𝓜 𝓖) (𝓜 .mem) (𝓡 .run) (tablesOf 𝓤 H 𝓜 (tables 𝓤 H 𝓜 𝓡 code.env))
+    (cited 𝓤 H (ListCode 𝓤 H (𝓖 .A) (𝓜 .mem) (𝓡 .run)) 𝓜 𝓡 code.env #engine-parts·list-code list-code-def.routine code.calls-engine-parts·list-code (list-code-thm.met 𝓤 H 𝓜 𝓖 𝓡))
     (cited 𝓤 H (ReadCount 𝓤 H (𝓖 .A) (𝓜 .mem) (𝓡 .run)) 𝓜 𝓡 code.env #engine-parts·read-count read-count-def.routine code.calls-engine-parts·read-count (read-count-thm.met 𝓤 H 𝓜 𝓖 𝓡))
     (cited 𝓤 H (Sender 𝓤 H (𝓖 .A) (𝓜 .mem) (𝓡 .run)) 𝓜 𝓡 code.env #engine-parts·sender sender-def.routine code.calls-engine-parts·sender (sender-thm.met 𝓤 H 𝓜 𝓖 𝓡))
     (cited 𝓤 H (Receiver 𝓤 H (𝓖 .A) (𝓜 .mem) (𝓡 .run)) 𝓜 𝓡 code.env #engine-parts·receiver receiver-def.routine code.calls-engine-parts·receiver (receiver-thm.met 𝓤 H 𝓜 𝓖 𝓡))
