@@ -5,7 +5,7 @@ use mathlib.Core.List.{List, _∷_, _++_, append-nil}
 use native.Mathlib.Omega.{arith}
 use lib.ListN.{length, take, drop, replicate, length-take, length-drop, length-append, take-append-drop, drop-of-length-le, length-replicate, replicate-append-replicate}
 use lib.Seq.{length-take-le, take-all, take-at, drop-at, drop-drop, paste, length-paste, take-paste, drop-paste}
-use Rattle.list_rows.specs.Rows.{zeroRow, cleared, without}
+use Rattle.list_rows.specs.Rows.{zeroRow, cleared, ZeroPast, without}
 use Rattle.list_exchange.specs.Exchange.{takenOut, Exchanged}
 
 -- how many rows stay once the one at a place is taken off
@@ -67,7 +67,7 @@ pub taken-out-long : (n place : ℕ) (rows : List (List ℕ)) → place < n → 
 taken-out-long n place rows g h = simp (length-append, length-take, length-drop) (omega arith)
 
 -- What `exchange` does in its two cases.
-module _ (n place m : ℕ) (rows sent : List (List ℕ)) (fits : m ≤ length sent) (high : n ≤ length rows) {r : ℕ} {after : List (List ℕ)} where
+module _ (n place m : ℕ) (rows sent : List (List ℕ)) (fits : m ≤ length sent) (high : n ≤ length rows) (past : ZeroPast n rows) {r : ℕ} {after : List (List ℕ)} where
   pub exchanged-off : (rest : ℕ) {mid : List (List ℕ)} → place < n → length (without place (take n rows)) + m ≤ length rows → (rest + 1 ≡ n) × (mid ≡ takenOut n place rows)
       → (r ≡ rest + m) × (after ≡ paste mid rest sent m) → Exchanged n place rows sent m r after
   exchanged-off rest {mid} g room t u =
@@ -77,7 +77,7 @@ module _ (n place m : ℕ) (rows sent : List (List ℕ)) (fits : m ≤ length se
       record {
         count = omega (arith, u .0);
         list = rw (u .0, u .1, e, t .1) (take-paste (takenOut n place rows) (n - 1) sent m (omega arith) fits ∙ rw (taken-out-rest n place rows g high));
-        zeros = λ b. rw (u .0, u .1, e, t .1) (pasted-blank (n - 1) (takenOut n place rows) sent m (omega arith) fits (taken-out-blank n place rows g high b));
+        zeros = rw (u .0, u .1, e, t .1) (pasted-blank (n - 1) (takenOut n place rows) sent m (omega arith) fits (taken-out-blank n place rows g high past));
       }
 
   pub exchanged-on : place ≡ n → length (without place (take n rows)) + m ≤ length rows
@@ -87,5 +87,5 @@ module _ (n place m : ℕ) (rows sent : List (List ℕ)) (fits : m ≤ length se
       record {
         count = omega (arith, u .0);
         list = rw (u .0, u .1) (take-paste rows n sent m (omega arith) fits ∙ rw (e, without-none n rows));
-        zeros = λ b. rw (u .0, u .1) (pasted-blank n rows sent m (omega arith) fits b);
+        zeros = rw (u .0, u .1) (pasted-blank n rows sent m (omega arith) fits past);
       }

@@ -9,7 +9,7 @@ ghost use lib.Dec.{leb};
 ghost use lib.ListN.{length, take, drop};
 ghost use lib.Seq.{paste};
 ghost use Rattle.rig.specs.Limits.{messageLimit};
-ghost use Rattle.list_rows.specs.Rows.{without};
+ghost use Rattle.list_rows.specs.Rows.{ZeroPast, without};
 ghost use Rattle.list_exchange.specs.Exchange.{takenOut, Exchanged};
 
 // Each of the rows behind `place`, to the last used one, is copied one place forward.
@@ -65,7 +65,7 @@ pub fn has_room(list: &Rows, count: usize, place: usize, m: usize) -> bool
 }
 
 fn exchange_rows(list: &mut [Row], count: usize, place: usize, sent: &[Row], m: usize) -> usize
-    requires { ⌜ (place ≤ count) × (count ≤ length (now list)) × (length (without place (take count (now list))) + m ≤ length (now list)) × (m ≤ length (now sent)) ⌝ }
+    requires { ⌜ (place ≤ count) × (count ≤ length (now list)) × (length (without place (take count (now list))) + m ≤ length (now list)) × (m ≤ length (now sent)) × ZeroPast count (now list) ⌝ }
     ensures { λ r. ⌜ Exchanged count place (now (list .entry)) (now (sent .entry)) m r (now (list .exit)) ⌝ }
 {
     if place < count {
@@ -76,9 +76,9 @@ fn exchange_rows(list: &mut [Row], count: usize, place: usize, sent: &[Row], m: 
 }
 
 // An inner call: the message at `place` is taken off, none where place is `count`, and the first m rows of `sent` are put behind the
-// rest.
+// rest. The rows past the count are zeros, before and after.
 pub fn exchange(list: &mut Rows, count: usize, place: usize, sent: &[Row], m: usize) -> usize
-    requires { ⌜ (place ≤ count) × (count ≤ messageLimit) × (length (without place (take count (now list))) + m ≤ messageLimit) × (m ≤ length (now sent)) ⌝ }
+    requires { ⌜ (place ≤ count) × (count ≤ messageLimit) × (length (without place (take count (now list))) + m ≤ messageLimit) × (m ≤ length (now sent)) × ZeroPast count (now list) ⌝ }
     ensures { λ r. ⌜ Exchanged count place (now (list .entry)) (now (sent .entry)) m r (now (list .exit)) × (length (now (list .exit)) ≡ messageLimit) ⌝ }
 {
     exchange_rows(list, count, place, sent, m)

@@ -30,7 +30,7 @@ returns : tie.Need-returns
 returns c =
     let a = c .before .before .before .before .before .before .before .args in
     let p = c .before .before .before .before .before .before .before .pre in
-    exchanged-off (a .count) (a .place) (a .m) (now (a .list)) (now (a .sent)) (p .3) (p .1) (c .before .before .before .before .take-off .result) (c .before .before .before .before .before .before .if1 .taken) (p .2) (c .before .before .before .before .take-off .ensures) (c .before .append-all .ensures)
+    exchanged-off (a .count) (a .place) (a .m) (now (a .list)) (now (a .sent)) (p .3) (p .1) (p .4) (c .before .before .before .before .take-off .result) (c .before .before .before .before .before .before .if1 .taken) (p .2) (c .before .before .before .before .take-off .ensures) (c .before .append-all .ensures)
 
 append-all-requires-2 : tie.Need-append-all-requires-2
 append-all-requires-2 c κs =
@@ -46,7 +46,7 @@ returns-2 : tie.Need-returns-2
 returns-2 c =
     let a = c .before .before .before .before .args in
     let p = c .before .before .before .before .pre in
-    exchanged-on (a .count) (a .place) (a .m) (now (a .list)) (now (a .sent)) (p .3) (p .1) (omega (arith, p .0, c .before .before .before .if1 .left)) (p .2) (c .before .append-all2 .ensures)
+    exchanged-on (a .count) (a .place) (a .m) (now (a .list)) (now (a .sent)) (p .3) (p .1) (p .4) (omega (arith, p .0, c .before .before .before .if1 .left)) (p .2) (c .before .append-all2 .ensures)
 
 pub exchange-rows-spec : {M : Type 1} → statement M
 exchange-rows-spec =
