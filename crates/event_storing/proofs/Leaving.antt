@@ -42,18 +42,17 @@ module _ (ts ts′ : List (List (List ℕ))) (list list′ : List (List ℕ)) (k
 
   -- an effect within the limits: the desk stored, the list exchanged
   pub left-changed : (place : ℕ) (a : Acted) (out : List (List ℕ)) (m : ℕ) → a .count ≤ length out
-      → RowsStored k (a .desk) ts ts′ → Exchanged n place list out (a .count) m list′ → length list′ ≡ messageLimit → m ≤ messageLimit → ZeroPast n list
+      → RowsStored k (a .desk) ts ts′ → Exchanged n place list out (a .count) m list′ → length list′ ≡ messageLimit → m ≤ messageLimit
       → Left (outcome 0 (a .desk) (staying n place list ++ messagesIn (a .count) out)) k n ts ts′ list list′ (record { code = 0; site = a .desk .site; arbiter = a .desk .arbiter; count = m })
-  left-changed place a out m fits rows x long few z =
-      let zeros : ZeroPast m list′ = x .zeros z in
+  left-changed place a out m fits rows x long few =
       let count : m ≡ length (staying n place list ++ messagesIn (a .count) out) =
       rw (length-append, length-map (without place (take n list)) messageOf, length-map (take (a .count) out) messageOf, length-take-le (a .count) out fits) (x .count) in
       let messages : map messageOf list′ ≡ padded (staying n place list ++ messagesIn (a .count) out) =
-      ap (map messageOf) (sym zeros)
+      ap (map messageOf) (sym (x .zeros))
       ∙ cleared-padded m list′ long (omega arith)
       ∙ ap (λ (r : List (List ℕ)). padded (map messageOf r)) (x .list)
       ∙ ap padded (map-append messageOf (without place (take n list)) (take (a .count) out)) in
-      record { code = refl; site = refl; arbiter = refl; rows = rows; stays = λ e. clash false (sym e) refl; changes = λ _. (count, messages); zeros = zeros }
+      record { code = refl; site = refl; arbiter = refl; rows = rows; stays = λ e. clash false (sym e) refl; changes = λ _. (count, messages); zeros = x .zeros }
 
 -- What the limits make of an effect.
 module _ (accepted : ℕ) (d : Desk) (ms : List Message) (a : Acted) (out : List (List ℕ)) (n place : ℕ) (rows : List (List ℕ)) (fits : a .count ≤ length out) where

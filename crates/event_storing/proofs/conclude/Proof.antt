@@ -48,7 +48,7 @@ store-rows-requires c κs = search needs
 exchange-requires : tie.Need-exchange-requires
 exchange-requires c κs =
     let p = c .before .before .before .before .before .before .before .before .before .pre in
-    (p .1, p .2, leb-true _ _ (sym (c .before .before .before .before .has-room .ensures) ∙ not-false _ (c .before .before .before .if2 .left)), p .3)
+    (p .1, p .2, leb-true _ _ (sym (c .before .before .before .before .has-room .ensures) ∙ not-false _ (c .before .before .before .if2 .left)), p .3, p .5)
 
 returns-3 : tie.Need-returns-3
 returns-3 c n set =
@@ -58,7 +58,7 @@ returns-3 c n set =
     let room = sym (c .before .before .before .before .before .before .before .has-room .ensures) ∙ not-false _ (c .before .before .before .before .before .before .if2 .left) in
     let e = told-0 (a .accepted) d (messagesIn (a .count) (now (a .list))) (a .a) (now (a .out)) (a .count) (a .place) (now (a .list)) (p .3) (sym (c .before .before .before .before .before .before .before .before .before .before .passes-limits .ensures) ∙ c .before .before .before .before .before .before .before .before .before .if1 .left) room in
     let x = c .before .before .exchange .ensures in
-    rw e (left-changed (now (a .tables)) _ (now (a .list)) _ (a .s) (a .count) (a .place) (a .a) (now (a .out)) (c .before .before .exchange .result) (p .3) (c .before .before .before .before .store-rows .ensures) (x .0) (x .1) (rw (x .0 .count) (leb-true _ _ room)) (p .5))
+    rw e (left-changed (now (a .tables)) _ (now (a .list)) _ (a .s) (a .count) (a .place) (a .a) (now (a .out)) (c .before .before .exchange .result) (p .3) (c .before .before .before .before .store-rows .ensures) (x .0) (x .1) (rw (x .0 .count) (leb-true _ _ room)))
 
 pub conclude-spec : {M : Type 1} → statement M
 conclude-spec =
