@@ -20,7 +20,8 @@ use Rattle.list_rows.specs.Rows.{rowOf, messageOf, zeroRow, ZeroPast}
 use Rattle.list_rows.specs.State.{stored as in-rows}
 use Rattle.list_exchange.proofs.Zeros.{pasted-blank}
 use Rattle.list_lent.specs.First.{firstIn}
-use Rattle.engine_parts.specs.Parts.{senderOf, receiverOf, listCode, readOf, blankRows, judgedRows, changedFrom}
+use Rattle.event_sites.specs.Places.{senderOf, receiverOf}
+use Rattle.engine_parts.specs.Parts.{listCode, readOf, blankRows, judgedRows, changedFrom}
 use Rattle.engine.specs.Lent.{stored, answered}
 use Rattle.engine.proofs.Lent.{relisted, read-rows, from-fits, from-long, composed}
 

@@ -26,7 +26,8 @@ use Rattle.list_search.specs.declared.Found.the-variants.{At, Nowhere}
 use Rattle.list_search.specs.Places.{placeFrom}
 use Rattle.list_rows.specs.Rows.{rowOf, messageOf}
 use Rattle.list_lent.specs.First.{firstIn}
-use Rattle.engine_parts.specs.Parts.{senderOf, receiverOf, listCode, readOf, blankRows, judgedRows, placeFound, changedFrom}
+use Rattle.event_sites.specs.Places.{senderOf, receiverOf}
+use Rattle.engine_parts.specs.Parts.{listCode, readOf, blankRows, judgedRows, placeFound, changedFrom}
 
 -- an answer, with another list in the state that it leaves
 abbrev pub relisted : List Message → M.Answer → M.Answer

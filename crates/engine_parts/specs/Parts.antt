@@ -5,24 +5,12 @@ use mathlib.Core.List.{List}
 use lib.Dec.{eqb, ltb}
 use lib.ListN.{replicate}
 use Rattle.rig.specs.declared.Event.{Event}
-use Rattle.rig.specs.declared.Event.the-variants.{Ask, Leave, Deliver}
 use Rattle.rig.specs.Limits.{messageLimit}
 use Rattle.model.specs.State.{Stored}
 use Rattle.model.specs.Event.{Answer, answer, tested}
 use Rattle.list_search.specs.declared.Found.{Found}
 use Rattle.list_search.specs.declared.Found.the-variants.{At, Nowhere}
 use Rattle.list_rows.specs.Rows.{zeroRow}
-
--- the sender of a delivery, and its receiver; 0 for an ask or a leave
-abbrev pub senderOf : Event → ℕ
-senderOf (Ask s) = 0
-senderOf (Leave s) = 0
-senderOf (Deliver a b) = a
-
-abbrev pub receiverOf : Event → ℕ
-receiverOf (Ask s) = 0
-receiverOf (Leave s) = 0
-receiverOf (Deliver a b) = b
 
 -- the code that the list's length or its count gets: 13, 10, or 0 where both pass
 abbrev pub listCode : ℕ → ℕ → ℕ

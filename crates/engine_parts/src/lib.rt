@@ -11,29 +11,7 @@ ghost use Prim.Native.Nat.{_≤_};
 ghost use Rattle.rig.specs.Limits.{messageLimit};
 ghost use Rattle.list_rows.specs.Rows.{ZeroPast};
 ghost use Rattle.list_rows.specs.State.{before, after};
-ghost use Rattle.engine_parts.specs.Parts.{senderOf, receiverOf, listCode, readOf, blankRows, judgedRows, changedFrom};
-
-// The site that a delivery is from, 0 for an ask or a leave.
-pub fn sender(e: Event) -> u64
-    ensures { λ r. ⌜ r ≡ senderOf e ⌝ }
-{
-    match e {
-        Event::Ask(s) => 0,
-        Event::Leave(s) => 0,
-        Event::Deliver(a, b) => a,
-    }
-}
-
-// The site that a delivery is to, 0 for an ask or a leave.
-pub fn receiver(e: Event) -> u64
-    ensures { λ r. ⌜ r ≡ receiverOf e ⌝ }
-{
-    match e {
-        Event::Ask(s) => 0,
-        Event::Leave(s) => 0,
-        Event::Deliver(a, b) => b,
-    }
-}
+ghost use Rattle.engine_parts.specs.Parts.{listCode, readOf, blankRows, judgedRows, changedFrom};
 
 // The code that the list's length or its count gets: 13, 10, or 0 where both pass.
 pub fn list_code(count: usize, len: usize) -> u64

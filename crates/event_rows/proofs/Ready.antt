@@ -23,7 +23,7 @@ use Rattle.list_rows.specs.State.{stored}
 use Rattle.event_desks.specs.Parts.{deskAt}
 use Rattle.event_storing.specs.Leaves.{messagesIn}
 use Rattle.event_storing.specs.Needs.{NumbersInRange, NamesSites, SiteReady}
-use Rattle.event_at_site.specs.Places.{placeOf}
+use Rattle.event_sites.specs.Places.{placeOf}
 
 -- what is under way, of a list in rows
 pub under-way : (n : ℕ) (rows : List (List ℕ)) → messagesIn n rows ≡ take n (map messageOf rows)

@@ -29,7 +29,7 @@ use Rattle.list_rows.specs.State.{stored}
 use Rattle.event_desks.specs.Parts.{deskAt, withRows}
 use Rattle.event_storing.specs.declared.Done.{Done}
 use Rattle.event_storing.specs.Leaves.{Left, messagesIn}
-use Rattle.event_at_site.specs.Places.{placeOf, countedOn}
+use Rattle.event_sites.specs.Places.{placeOf, countedOn}
 use Rattle.event_storing.specs.Outbox.{attempted}
 use Rattle.event_rows.specs.Steps.{InRun, Steps, attemptOn}
 use Rattle.event_rows.proofs.Ready.{under-way, deskFrom, desk-of}

@@ -1,8 +1,8 @@
 // One event on a rig, with its list in rows: the parts of the event's site are taken out of the rig, and stored.
-use event_at_site::actor;
-use event_at_site::counted_on;
-use event_at_site::place_of;
 use event_at_site::step_at;
+use event_sites::actor;
+use event_sites::counted_on;
+use event_sites::place_of;
 use list_rows::Outbox;
 use list_rows::Rows;
 use rig::Answer;

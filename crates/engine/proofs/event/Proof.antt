@@ -63,7 +63,8 @@ use Rattle.model.specs.Event as Model
 use Rattle.list_rows.specs.Rows.{rowOf, messageOf, ZeroPast}
 use Rattle.list_rows.specs.State.{stored as in-rows}
 use Rattle.list_lent.specs.First.{firstIn}
-use Rattle.engine_parts.specs.Parts.{senderOf, receiverOf, listCode, readOf, blankRows, judgedRows, changedFrom}
+use Rattle.event_sites.specs.Places.{senderOf, receiverOf}
+use Rattle.engine_parts.specs.Parts.{listCode, readOf, blankRows, judgedRows, changedFrom}
 use Rattle.engine.specs.Lent.{stored, answered}
 use Rattle.engine.proofs.Joined.{code-few, read-in, read-few, zero-past, from-in, from-full, joined}
 use Rattle.rig.proofs.Rig as G
@@ -83,14 +84,14 @@ use Rattle.engine_parts.proofs.read_count as read-count
 use Rattle.engine_parts.proofs.read_count.Symbol as read-count-def
 use Rattle.engine_parts.proofs.read_count.Symbol.{name as #engine-parts·read-count}
 use Rattle.engine_parts.proofs.read_count.Met as read-count-thm
-use Rattle.engine_parts.proofs.sender as sender′
-use Rattle.engine_parts.proofs.sender.Symbol as sender-def
-use Rattle.engine_parts.proofs.sender.Symbol.{name as #engine-parts·sender}
-use Rattle.engine_parts.proofs.sender.Met as sender-thm
-use Rattle.engine_parts.proofs.receiver as receiver′
-use Rattle.engine_parts.proofs.receiver.Symbol as receiver-def
-use Rattle.engine_parts.proofs.receiver.Symbol.{name as #engine-parts·receiver}
-use Rattle.engine_parts.proofs.receiver.Met as receiver-thm
+use Rattle.event_sites.proofs.sender as sender′
+use Rattle.event_sites.proofs.sender.Symbol as sender-def
+use Rattle.event_sites.proofs.sender.Symbol.{name as #event-sites·sender}
+use Rattle.event_sites.proofs.sender.Met as sender-thm
+use Rattle.event_sites.proofs.receiver as receiver′
+use Rattle.event_sites.proofs.receiver.Symbol as receiver-def
+use Rattle.event_sites.proofs.receiver.Symbol.{name as #event-sites·receiver}
+use Rattle.event_sites.proofs.receiver.Met as receiver-thm
 use Rattle.list_lent.proofs.first as first′
 use Rattle.list_lent.proofs.first.Symbol as first-def
 use Rattle.list_lent.proofs.first.Symbol.{name as #list-lent·first}
@@ -385,7 +386,7 @@ module _ {M : Type 1} (𝓤 : URA M) (H : Heap 𝓤) (A : Atoms 𝓤) (W : Given
   full : (rs : List (List ℕ)) → length rs ≡ 1024 → Room Five (length rs)
   full rs l = subst (Room Five) (sym l) (lit< tt, lit< tt)
 
-  module _ (C : Calls 𝓤 H) (Λ : Loops 𝓤 H) (fm : FmC 𝓤 H (W .laws) C) (known-list-code : Triple 𝓤 (C #engine-parts·list-code) (ListCode 𝓤 H A mem′ run)) (known-read-count : Triple 𝓤 (C #engine-parts·read-count) (ReadCount 𝓤 H A mem′ run)) (known-sender : Triple 𝓤 (C #engine-parts·sender) (Sender 𝓤 H A mem′ run)) (known-receiver : Triple 𝓤 (C #engine-parts·receiver) (Receiver 𝓤 H A mem′ run)) (known-first : Triple 𝓤 (C #list-lent·first) (First 𝓤 H A mem′ run)) (known-blank-rows : Triple 𝓤 (C #engine-parts·blank-rows) (Blank 𝓤 H A mem′ run)) (known-to-rows : Triple 𝓤 (C #list-copy·to-rows) (ToRows 𝓤 H A mem′ run)) (known-on-rows : Triple 𝓤 (C #engine-parts·on-rows) (OnRows 𝓤 H A mem′ run)) (known-changed-from : Triple 𝓤 (C #engine-parts·changed-from) (ChangedFrom 𝓤 H A mem′ run)) (known-rewrite : Triple 𝓤 (C #list-copy·rewrite) (Rewrite 𝓤 H A mem′ run)) where
+  module _ (C : Calls 𝓤 H) (Λ : Loops 𝓤 H) (fm : FmC 𝓤 H (W .laws) C) (known-list-code : Triple 𝓤 (C #engine-parts·list-code) (ListCode 𝓤 H A mem′ run)) (known-read-count : Triple 𝓤 (C #engine-parts·read-count) (ReadCount 𝓤 H A mem′ run)) (known-sender : Triple 𝓤 (C #event-sites·sender) (Sender 𝓤 H A mem′ run)) (known-receiver : Triple 𝓤 (C #event-sites·receiver) (Receiver 𝓤 H A mem′ run)) (known-first : Triple 𝓤 (C #list-lent·first) (First 𝓤 H A mem′ run)) (known-blank-rows : Triple 𝓤 (C #engine-parts·blank-rows) (Blank 𝓤 H A mem′ run)) (known-to-rows : Triple 𝓤 (C #list-copy·to-rows) (ToRows 𝓤 H A mem′ run)) (known-on-rows : Triple 𝓤 (C #engine-parts·on-rows) (OnRows 𝓤 H A mem′ run)) (known-changed-from : Triple 𝓤 (C #engine-parts·changed-from) (ChangedFrom 𝓤 H A mem′ run)) (known-rewrite : Triple 𝓤 (C #list-copy·rewrite) (Rewrite 𝓤 H A mem′ run)) where
     walk : ent 𝓤 (onEntry 𝓤 H A event.signature (κ₀, (κ₁, tt)) (q₀, (q₁, tt)) x at) (WpFn 𝓤 H C Λ code.function (only (rig-vals g) ∷ ptr-val t ∷ s ∷ vint w64 n ∷ only (event-vals e) ∷ []) Post)
     walk =
         qed W ((‵ (flft κ₀ q₀) ⊛ (‵ (flft κ₁ q₁) ⊛ ‵ ftrue)) ∷ ‵ (owns (G.the-row ∷ MutRef (named 0) κ₀ Tabs ∷ MutSlice (named 1) κ₁ T.the-row ∷ usize ∷ E.the-row ∷ []) x at) ∷ []) ∵
@@ -528,7 +529,7 @@ module _ {M : Type 1} (𝓤 : URA M) (H : Heap 𝓤) (A : Atoms 𝓤) (W : Given
         code-small v r is = LL.owed K.the-type K′.the-laws r (v ∷ []) is .0 .1
 
 module _ {M : Type 1} (𝓤 : URA M) (H : Heap 𝓤) (A : Atoms 𝓤) (W : Given 𝓤 H A) (mem′ : Memory → SProp 𝓤) (run : Routine → Fun 𝓤) where
-  event-walks : (C : Calls 𝓤 H) (Λ : Loops 𝓤 H) → FmC 𝓤 H (W .laws) C → Triple 𝓤 (C #engine-parts·list-code) (ListCode 𝓤 H A mem′ run) → Triple 𝓤 (C #engine-parts·read-count) (ReadCount 𝓤 H A mem′ run) → Triple 𝓤 (C #engine-parts·sender) (Sender 𝓤 H A mem′ run) → Triple 𝓤 (C #engine-parts·receiver) (Receiver 𝓤 H A mem′ run) → Triple 𝓤 (C #list-lent·first) (First 𝓤 H A mem′ run) → Triple 𝓤 (C #engine-parts·blank-rows) (Blank 𝓤 H A mem′ run) → Triple 𝓤 (C #list-copy·to-rows) (ToRows 𝓤 H A mem′ run) → Triple 𝓤 (C #engine-parts·on-rows) (OnRows 𝓤 H A mem′ run) → Triple 𝓤 (C #engine-parts·changed-from) (ChangedFrom 𝓤 H A mem′ run) → Triple 𝓤 (C #list-copy·rewrite) (Rewrite 𝓤 H A mem′ run)
+  event-walks : (C : Calls 𝓤 H) (Λ : Loops 𝓤 H) → FmC 𝓤 H (W .laws) C → Triple 𝓤 (C #engine-parts·list-code) (ListCode 𝓤 H A mem′ run) → Triple 𝓤 (C #engine-parts·read-count) (ReadCount 𝓤 H A mem′ run) → Triple 𝓤 (C #event-sites·sender) (Sender 𝓤 H A mem′ run) → Triple 𝓤 (C #event-sites·receiver) (Receiver 𝓤 H A mem′ run) → Triple 𝓤 (C #list-lent·first) (First 𝓤 H A mem′ run) → Triple 𝓤 (C #engine-parts·blank-rows) (Blank 𝓤 H A mem′ run) → Triple 𝓤 (C #list-copy·to-rows) (ToRows 𝓤 H A mem′ run) → Triple 𝓤 (C #engine-parts·on-rows) (OnRows 𝓤 H A mem′ run) → Triple 𝓤 (C #engine-parts·changed-from) (ChangedFrom 𝓤 H A mem′ run) → Triple 𝓤 (C #list-copy·rewrite) (Rewrite 𝓤 H A mem′ run)
       → Walks 𝓤 H A event.ended stayed (WpFn 𝓤 H C Λ code.function) (event.clauses 𝓤 H A mem′ run)
   event-walks C Λ fm k₀ k₁ k₂ k₃ k₄ k₅ k₆ k₇ k₈ k₉ = walked 𝓤 H A event.ended stayed (event.clauses 𝓤 H A mem′ run) (WpFn 𝓤 H C Λ code.function)
       (λ κs. (rig-vals, (ptr-vals, (slice-vals, (uint-vals w64, (event-vals, tt))))))
@@ -544,7 +545,7 @@ module _ {M : Type 1} (𝓤 : URA M) (H : Heap 𝓤) (A : Atoms 𝓤) (W : Given
     (goes-gave-ref 𝓤 H A W 2 0 tt tabs, (goes-gave-slice 𝓤 H A W 2 1 tt (plain (λ _. T.the-row)), (goes-dropped 𝓤 H A W 2 (plain (λ _. usize)) yes (λ κs x f. refl), (goes-dropped 𝓤 H A W 2 (plain (λ _. E.the-row)) yes (λ κs x f. refl), tt)))),
   )
 
-event-meets : {M : Type 1} (𝓤 : URA M) (H : Heap 𝓤) (A : Atoms 𝓤) (W : Given 𝓤 H A) (mem′ : Memory → SProp 𝓤) (run : Routine → Fun 𝓤) (𝓣 : Tables 𝓤 H) → Triple 𝓤 (𝓣 .C #engine-parts·list-code) (ListCode 𝓤 H A mem′ run) → Triple 𝓤 (𝓣 .C #engine-parts·read-count) (ReadCount 𝓤 H A mem′ run) → Triple 𝓤 (𝓣 .C #engine-parts·sender) (Sender 𝓤 H A mem′ run) → Triple 𝓤 (𝓣 .C #engine-parts·receiver) (Receiver 𝓤 H A mem′ run) → Triple 𝓤 (𝓣 .C #list-lent·first) (First 𝓤 H A mem′ run) → Triple 𝓤 (𝓣 .C #engine-parts·blank-rows) (Blank 𝓤 H A mem′ run) → Triple 𝓤 (𝓣 .C #list-copy·to-rows) (ToRows 𝓤 H A mem′ run) → Triple 𝓤 (𝓣 .C #engine-parts·on-rows) (OnRows 𝓤 H A mem′ run) → Triple 𝓤 (𝓣 .C #engine-parts·changed-from) (ChangedFrom 𝓤 H A mem′ run) → Triple 𝓤 (𝓣 .C #list-copy·rewrite) (Rewrite 𝓤 H A mem′ run)
+event-meets : {M : Type 1} (𝓤 : URA M) (H : Heap 𝓤) (A : Atoms 𝓤) (W : Given 𝓤 H A) (mem′ : Memory → SProp 𝓤) (run : Routine → Fun 𝓤) (𝓣 : Tables 𝓤 H) → Triple 𝓤 (𝓣 .C #engine-parts·list-code) (ListCode 𝓤 H A mem′ run) → Triple 𝓤 (𝓣 .C #engine-parts·read-count) (ReadCount 𝓤 H A mem′ run) → Triple 𝓤 (𝓣 .C #event-sites·sender) (Sender 𝓤 H A mem′ run) → Triple 𝓤 (𝓣 .C #event-sites·receiver) (Receiver 𝓤 H A mem′ run) → Triple 𝓤 (𝓣 .C #list-lent·first) (First 𝓤 H A mem′ run) → Triple 𝓤 (𝓣 .C #engine-parts·blank-rows) (Blank 𝓤 H A mem′ run) → Triple 𝓤 (𝓣 .C #list-copy·to-rows) (ToRows 𝓤 H A mem′ run) → Triple 𝓤 (𝓣 .C #engine-parts·on-rows) (OnRows 𝓤 H A mem′ run) → Triple 𝓤 (𝓣 .C #engine-parts·changed-from) (ChangedFrom 𝓤 H A mem′ run) → Triple 𝓤 (𝓣 .C #list-copy·rewrite) (Rewrite 𝓤 H A mem′ run)
     → Meets 𝓤 H A event.signature (WpFn 𝓤 H (𝓣 .C) (𝓣 .Λ) code.function) (event.spec 𝓤 H A mem′ run)
 event-meets 𝓤 H A W mem′ run 𝓣 k₀ k₁ k₂ k₃ k₄ k₅ k₆ k₇ k₈ k₉ =
     walk-meets 𝓤 H A event.ended stayed W (goes 𝓤 H A W mem′ run) (event.clauses 𝓤 H A mem′ run)
@@ -558,8 +559,8 @@ event-spec 𝓤 H 𝓜 𝓖 𝓡 =
     (event-meets 𝓤 H (𝓖 .A) (givenOf 𝓤 H 𝓜 𝓖) (𝓜 .mem) (𝓡 .run) (tablesOf 𝓤 H 𝓜 (tables 𝓤 H 𝓜 𝓡 code.env))
     (cited 𝓤 H (ListCode 𝓤 H (𝓖 .A) (𝓜 .mem) (𝓡 .run)) 𝓜 𝓡 code.env #engine-parts·list-code list-code-def.routine code.calls-engine-parts·list-code (list-code-thm.met 𝓤 H 𝓜 𝓖 𝓡))
     (cited 𝓤 H (ReadCount 𝓤 H (𝓖 .A) (𝓜 .mem) (𝓡 .run)) 𝓜 𝓡 code.env #engine-parts·read-count read-count-def.routine code.calls-engine-parts·read-count (read-count-thm.met 𝓤 H 𝓜 𝓖 𝓡))
-    (cited 𝓤 H (Sender 𝓤 H (𝓖 .A) (𝓜 .mem) (𝓡 .run)) 𝓜 𝓡 code.env #engine-parts·sender sender-def.routine code.calls-engine-parts·sender (sender-thm.met 𝓤 H 𝓜 𝓖 𝓡))
-    (cited 𝓤 H (Receiver 𝓤 H (𝓖 .A) (𝓜 .mem) (𝓡 .run)) 𝓜 𝓡 code.env #engine-parts·receiver receiver-def.routine code.calls-engine-parts·receiver (receiver-thm.met 𝓤 H 𝓜 𝓖 𝓡))
+    (cited 𝓤 H (Sender 𝓤 H (𝓖 .A) (𝓜 .mem) (𝓡 .run)) 𝓜 𝓡 code.env #event-sites·sender sender-def.routine code.calls-event-sites·sender (sender-thm.met 𝓤 H 𝓜 𝓖 𝓡))
+    (cited 𝓤 H (Receiver 𝓤 H (𝓖 .A) (𝓜 .mem) (𝓡 .run)) 𝓜 𝓡 code.env #event-sites·receiver receiver-def.routine code.calls-event-sites·receiver (receiver-thm.met 𝓤 H 𝓜 𝓖 𝓡))
     (cited 𝓤 H (First 𝓤 H (𝓖 .A) (𝓜 .mem) (𝓡 .run)) 𝓜 𝓡 code.env #list-lent·first first-def.routine code.calls-list-lent·first (first-thm.met 𝓤 H 𝓜 𝓖 𝓡))
     (cited 𝓤 H (Blank 𝓤 H (𝓖 .A) (𝓜 .mem) (𝓡 .run)) 𝓜 𝓡 code.env #engine-parts·blank-rows blank-rows-def.routine code.calls-engine-parts·blank-rows (blank-rows-thm.met 𝓤 H 𝓜 𝓖 𝓡))
     (cited 𝓤 H (ToRows 𝓤 H (𝓖 .A) (𝓜 .mem) (𝓡 .run)) 𝓜 𝓡 code.env #list-copy·to-rows to-rows-def.routine code.calls-list-copy·to-rows (to-rows-thm.met 𝓤 H 𝓜 𝓖 𝓡))

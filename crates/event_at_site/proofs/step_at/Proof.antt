@@ -14,8 +14,8 @@ use Rattle.event_deliveries.proofs.AtPlace.{attempt-at}
 use Rattle.event_at_site.proofs.AtSite.{unnamed, named, unnamed-attempt, named-attempt}
 use Rattle.event_at_site.proofs.step_at.Statement.{statement}
 use Rattle.event_at_site.proofs.step_at.Tie as tie
-use Rattle.event_at_site.proofs.sites_named.Reads as sites-named-reads
 use Rattle.event_deliveries.proofs.deliver.Reads as deliver-reads
+use Rattle.event_sites.proofs.sites_named.Reads as sites-named-reads
 use Rattle.event_storing.proofs.Done.refused.Reads as refused-reads
 use Rattle.event_turns.proofs.turn.Reads as turn-reads
 

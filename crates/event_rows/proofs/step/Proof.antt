@@ -5,14 +5,14 @@ use denote.Ref.{now}
 use borrow.Author.Needs.{needs}
 use Rattle.model.specs.Event.{actor}
 use Rattle.list_rows.specs.State.{stored}
-use Rattle.event_at_site.specs.Places.{placeOf}
+use Rattle.event_sites.specs.Places.{placeOf}
 use Rattle.event_rows.proofs.Ready.{ready, size-high, accepted-high}
 use Rattle.event_rows.proofs.Stepping.{same-attempt, stepped-at, steps}
 use Rattle.event_rows.proofs.step.Statement.{statement}
 use Rattle.event_rows.proofs.step.Tie as tie
-use Rattle.event_at_site.proofs.actor.Reads as actor-reads
-use Rattle.event_at_site.proofs.counted_on.Reads as counted-on-reads
-use Rattle.event_at_site.proofs.place_of.Reads as place-of-reads
+use Rattle.event_sites.proofs.actor.Reads as actor-reads
+use Rattle.event_sites.proofs.counted_on.Reads as counted-on-reads
+use Rattle.event_sites.proofs.place_of.Reads as place-of-reads
 use Rattle.event_at_site.proofs.step_at.Reads as step-at-reads
 
 actor-requires : tie.Need-actor-requires

@@ -5,8 +5,8 @@ use native.Mathlib.Omega.{arith}
 use borrow.Author.Needs.{needs}
 use Rattle.model.specs.State.{inRange}
 use Rattle.model.proofs.Shaped.{within}
-use Rattle.event_at_site.proofs.place_of.Statement.{statement}
-use Rattle.event_at_site.proofs.place_of.Tie as tie
+use Rattle.event_sites.proofs.place_of.Statement.{statement}
+use Rattle.event_sites.proofs.place_of.Tie as tie
 use Rattle.rig_reads.proofs.is_site.Reads as is-site-reads
 
 is-site-requires : tie.Need-is-site-requires

@@ -1,8 +1,8 @@
 -- `counted_on`: one more after a code of 0.
 use borrow.Author.Tests.{eq-eqb, ne-eqb}
 use borrow.Author.Needs.{needs}
-use Rattle.event_at_site.proofs.counted_on.Statement.{statement}
-use Rattle.event_at_site.proofs.counted_on.Tie as tie
+use Rattle.event_sites.proofs.counted_on.Statement.{statement}
+use Rattle.event_sites.proofs.counted_on.Tie as tie
 
 add-result : tie.Need-add-result
 add-result c = search needs

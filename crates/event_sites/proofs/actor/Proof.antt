@@ -1,8 +1,8 @@
 -- `actor`: by cases.
 use borrow.Author.Needs.{needs}
 use Rattle.model.specs.Event.{actor}
-use Rattle.event_at_site.proofs.actor.Statement.{statement}
-use Rattle.event_at_site.proofs.actor.Tie as tie
+use Rattle.event_sites.proofs.actor.Statement.{statement}
+use Rattle.event_sites.proofs.actor.Tie as tie
 
 enum-known-e : tie.Need-enum-known-e
 enum-known-e c = search needs

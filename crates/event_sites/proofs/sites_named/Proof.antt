@@ -2,8 +2,8 @@
 use mathlib.Core.Path.{sym, _∙_}
 use borrow.Author.Needs.{needs}
 use Rattle.model.specs.Event.{sitesNamed}
-use Rattle.event_at_site.proofs.sites_named.Statement.{statement}
-use Rattle.event_at_site.proofs.sites_named.Tie as tie
+use Rattle.event_sites.proofs.sites_named.Statement.{statement}
+use Rattle.event_sites.proofs.sites_named.Tie as tie
 use Rattle.rig_reads.proofs.is_site.Reads as is-site-reads
 
 enum-known-e : tie.Need-enum-known-e
