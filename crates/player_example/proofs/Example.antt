@@ -22,7 +22,8 @@ use Rattle.model.specs.Deliver.{between, delivered}
 use Rattle.model.specs.Shape.{isNumber, isGiven, setShaped, modeShaped, siteBlank, siteShaped, holderShaped, arbiterShaped, placeShaped, rigShaped, entryShaped, ownShaped, heirShaped, queuedShaped, everywhere, numberShaped, plainShaped, releaseShaped, aboutShaped, messageShaped, messagesShaped, tablesShaped, wellShaped}
 use Rattle.model.specs.Event.{actor, sitesNamed, takenOff, attempt, numbersUpTo, numbersFit, limitCode, blankMessage, padded, acceptedState, judged, eventAt, settled, played, tested, event}
 use Rattle.model.specs.Run.{fresh, waitingCount}
-use Rattle.player_grammar.specs.Grammar.{allDigits, noLeadingZero, value, number, longer, parts, before, allNumbers, numbers, ascends, siteBit, withSites, setLine, one, moveLine, starts, form, meaningOf}
+use Rattle.player_numbers.specs.Numbers.{allDigits, noLeadingZero, value, number}
+use Rattle.player_grammar.specs.Grammar.{longer, parts, before, allNumbers, numbers, ascends, siteBit, withSites, setLine, one, moveLine, starts, form, eventForm, meaningOf}
 use Rattle.player_printing.specs.Printing.{digits, decimal, stepLine}
 use Rattle.player_text.specs.Player.{counted, sizeIn, setIn, eventIn, onSize, allGiven, onSet, printedLine, onEvent, atStage, onLine, endsAt, onEnd, start, transcript, output}
 use Rattle.model.specs.Printed.{Line, insideUpTo, lineOf, printed}

@@ -3,7 +3,8 @@ use Prim.Native.Nat.{ℕ}
 use mathlib.Core.List.{[], _∷_, _++_}
 use mathlib.Core.Path.{_≡_, refl}
 use lib.ListN.{replicate}
-use Rattle.player_grammar.specs.Grammar.{allDigits, noLeadingZero, value, number, longer, parts, before, allNumbers, numbers, ascends, siteBit, withSites, setLine, one, moveLine, sitesWord, setWord, askWord, leaveWord, moveWord, starts, form, meaningOf}
+use Rattle.player_numbers.specs.Numbers.{allDigits, noLeadingZero, value, number}
+use Rattle.player_grammar.specs.Grammar.{longer, parts, before, allNumbers, numbers, ascends, siteBit, withSites, setLine, one, moveLine, sitesWord, setWord, askWord, leaveWord, moveWord, starts, form, eventForm, meaningOf}
 use Rattle.player_grammar.specs.declared.Line.the-variants.{Sites, Set, Ask, Leave, Move, Malformed}
 
 -- `sites=31`, `set=1,5,31`, `set=0`, `ask=999`, `leave=0`, `move=2,1`
@@ -14,7 +15,7 @@ well-formed :
     × (meaningOf (askWord ++ (57 ∷ 57 ∷ 57 ∷ [])) ≡ Ask 999)
     × (meaningOf (leaveWord ++ (48 ∷ [])) ≡ Leave 0)
     × (meaningOf (moveWord ++ (50 ∷ 44 ∷ 49 ∷ [])) ≡ Move 2 1)
-unfolding meaningOf form starts setLine ascends withSites siteBit one moveLine numbers allNumbers parts longer before number noLeadingZero allDigits value
+unfolding meaningOf form eventForm starts setLine ascends withSites siteBit one moveLine numbers allNumbers parts longer before number noLeadingZero allDigits value
 well-formed = (refl, refl, refl, refl, refl, refl)
 
 -- `sites=`, `sites=1,2`, `set=5,5`, `set=1,`, `ask=007`, `ask=1000`, `leave=1 `, `move=1`, nothing at all
@@ -28,7 +29,7 @@ malformed :
     × (meaningOf (leaveWord ++ (49 ∷ 32 ∷ [])) ≡ Malformed)
     × (meaningOf (moveWord ++ (49 ∷ [])) ≡ Malformed)
     × (meaningOf [] ≡ Malformed)
-unfolding meaningOf form starts setLine ascends withSites siteBit one moveLine numbers allNumbers parts longer before number noLeadingZero allDigits value
+unfolding meaningOf form eventForm starts setLine ascends withSites siteBit one moveLine numbers allNumbers parts longer before number noLeadingZero allDigits value
 malformed = (refl, refl, refl, refl, refl, refl, refl, refl, refl)
 
 -- 97 bytes

@@ -13,11 +13,12 @@ use lib.ListN.{length, take, drop, length-drop}
 use lib.Seq.{take-all, take-length, drop-drop}
 use Rattle.basics.proofs.Basics.{by-bool, and-second}
 use Rattle.bytes.specs.Bytes.{indexAfter, indexOf, slice}
-use Rattle.player_grammar.specs.Grammar.{isDigit, allDigits, noLeadingZero, number, longer, parts, before, allNumbers, numbers, ascends, siteBit, withSites, setLine, one, moveLine}
+use Rattle.player_numbers.specs.Numbers.{isDigit, allDigits, noLeadingZero, number}
+use Rattle.player_grammar.specs.Grammar.{longer, parts, before, allNumbers, numbers, ascends, siteBit, withSites, setLine, one, moveLine}
 use Rattle.player_grammar.specs.declared.Line.{Line}
 use Rattle.player_grammar.specs.declared.Line.the-variants.{Set, Move, Malformed}
-use Rattle.player_grammar.specs.declared.Number.{Number}
-use Rattle.player_grammar.specs.declared.Number.the-variants.{Of, Nothing}
+use Rattle.player_numbers.specs.declared.Number.{Number}
+use Rattle.player_numbers.specs.declared.Number.the-variants.{Of, Nothing}
 
 -- where the first comma is
 abbrev pub comma : List ℕ → ℕ

@@ -10,9 +10,9 @@ use lib.Dec.{eqb}
 use lib.ListN.{length, getD, take, drop, length-drop, drop-of-length-le}
 use lib.Seq.{drop-cons, take-all}
 use Rattle.basics.proofs.Basics.{and-split}
-use Rattle.player_grammar.specs.Grammar.{numbers, setLine, one, moveLine, setWord, askWord, leaveWord, moveWord, starts}
+use Rattle.player_grammar.specs.Grammar.{numbers, setLine, one, moveLine, setWord, leaveWord, moveWord, starts, eventForm}
 use Rattle.player_grammar.specs.declared.Line.{Line}
-use Rattle.player_grammar.specs.declared.Line.the-variants.{Ask, Leave, Malformed}
+use Rattle.player_grammar.specs.declared.Line.the-variants.{Leave, Malformed}
 
 pub starts-length : (word line : List ℕ) → starts word line ≡ true → length word ≤ length line
 unfolding starts
@@ -20,18 +20,15 @@ starts-length [] line h = omega arith
 starts-length (w ∷ ws) [] h = let z : _≡_ {A = ℕ} 0 1 = cc in absurd (omega arith)
 starts-length (w ∷ ws) (b ∷ bs) h = omega (arith, starts-length ws bs (and-split (eqb b w) (starts ws bs) h .1))
 
--- `form`, where the line does not start with the words so far
+-- `form` and `eventForm`, where the line does not start with the words so far
+abbrev pub notSites : List ℕ → Line
+notSites line = cond (starts setWord line) (setLine (numbers (drop 4 line))) (eventForm line)
+
 abbrev pub notLeave : List ℕ → Line
 notLeave line = cond (starts moveWord line) (moveLine (numbers (drop 5 line))) Malformed
 
 abbrev pub notAsk : List ℕ → Line
 notAsk line = cond (starts leaveWord line) (one Leave (numbers (drop 6 line))) (notLeave line)
-
-abbrev pub notSet : List ℕ → Line
-notSet line = cond (starts askWord line) (one Ask (numbers (drop 4 line))) (notAsk line)
-
-abbrev pub notSites : List ℕ → Line
-notSites line = cond (starts setWord line) (setLine (numbers (drop 4 line))) (notSet line)
 
 -- `&line[i..]`
 pub behind : (line : List ℕ) (i : ℕ) → take (length line - i) (drop i line) ≡ drop i line

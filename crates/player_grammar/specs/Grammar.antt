@@ -1,38 +1,17 @@
 -- Document 01, "The player": what one line means. A line is its bytes before byte 10, of any number and any value.
-use Prim.Native.Nat.{ℕ, _+_, _-_, _*_, _^_}
-use mathlib.Core.Bool.{Bool, true, false, not, _&&_, cond}
+use Prim.Native.Nat.{ℕ, _-_, _^_}
+use mathlib.Core.Bool.{Bool, true, false, _&&_, cond}
 use mathlib.Core.List.{List, [], _∷_}
 use mathlib.Core.Option.{Option, none, some}
 use lib.Bits.{bitOr}
 use lib.Dec.{leb, ltb, eqb}
 use lib.ListN.{length, drop}
 use Rattle.rig.specs.Limits.{siteLimit}
+use Rattle.player_numbers.specs.declared.Number.{Number}
+use Rattle.player_numbers.specs.declared.Number.the-variants.{Of, Nothing}
+use Rattle.player_numbers.specs.Numbers.{number}
 use Rattle.player_grammar.specs.declared.Line.{Line}
 use Rattle.player_grammar.specs.declared.Line.the-variants.{Sites, Set, Ask, Leave, Move, Malformed}
-use Rattle.player_grammar.specs.declared.Number.{Number}
-use Rattle.player_grammar.specs.declared.Number.the-variants.{Of, Nothing}
-
--- "Numbers are 0 to 999 without leading zeros." The digits are bytes 48 to 57.
-abbrev pub isDigit : ℕ → Bool
-isDigit b = leb 48 b && leb b 57
-
-unfoldable pub allDigits : List ℕ → Bool
-allDigits [] = true
-allDigits (b ∷ bs) = isDigit b && allDigits bs
-
--- one byte, or more of which the first is not 48
-unfoldable pub noLeadingZero : List ℕ → Bool
-noLeadingZero [] = false
-noLeadingZero (b ∷ []) = true
-noLeadingZero (b ∷ c ∷ bs) = not (eqb b 48)
-
--- the value of the digits of n followed by these
-unfoldable pub value : ℕ → List ℕ → ℕ
-value n [] = n
-value n (b ∷ bs) = value (n * 10 + (b - 48)) bs
-
-unfoldable pub number : List ℕ → Number
-number bs = cond (noLeadingZero bs && (allDigits bs && leb (value 0 bs) 999)) (Of (value 0 bs)) Nothing
 
 -- "A list is a number, or a number, a comma and a list": the parts that the commas (byte 44) separate, each a number.
 -- `longer b` puts the byte b in front of the first part.
@@ -114,15 +93,20 @@ starts [] line = true
 starts (w ∷ ws) [] = false
 starts (w ∷ ws) (b ∷ bs) = eqb b w && starts ws bs
 
--- "`sites=`, then N lines `set=`, then events `ask=s`, `leave=s`, `move=a,b`": one of the five words, and what is behind it
+-- "events `ask=s`, `leave=s`, `move=a,b`": one of the three words, and what is behind it
+unfoldable pub eventForm : List ℕ → Line
+eventForm line =
+    cond (starts askWord line) (one Ask (numbers (drop 4 line)))
+    (cond (starts leaveWord line) (one Leave (numbers (drop 6 line)))
+    (cond (starts moveWord line) (moveLine (numbers (drop 5 line)))
+    Malformed))
+
+-- "`sites=`, then N lines `set=`, then events"
 unfoldable pub form : List ℕ → Line
 form line =
     cond (starts sitesWord line) (one Sites (numbers (drop 6 line)))
     (cond (starts setWord line) (setLine (numbers (drop 4 line)))
-    (cond (starts askWord line) (one Ask (numbers (drop 4 line)))
-    (cond (starts leaveWord line) (one Leave (numbers (drop 6 line)))
-    (cond (starts moveWord line) (moveLine (numbers (drop 5 line)))
-    Malformed))))
+    (eventForm line))
 
 -- "at most 96 bytes before it"
 abbrev pub lineLimit : ℕ

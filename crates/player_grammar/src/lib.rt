@@ -1,9 +1,9 @@
 // What one line of the player's text means. A line is its bytes before byte 10.
+use player_numbers::Number;
+use player_numbers::read_number;
 use rig::Rig;
-ghost use Prim.Native.Nat.{_+_, _-_, _*_, _≤_};
-ghost use mathlib.Core.Bool.{true};
 ghost use mathlib.Core.Path.{_≡_};
-ghost use Rattle.player_grammar.specs.Grammar.{isDigit, noLeadingZero, number, numbers, siteBit, setLine, one, moveLine, starts, meaningOf};
+ghost use Rattle.player_grammar.specs.Grammar.{numbers, siteBit, setLine, one, moveLine, starts, eventForm, meaningOf};
 
 // The bytes that a line may have before its byte 10.
 pub const LINE_LIMIT: usize = 96;
@@ -15,64 +15,6 @@ pub enum Line {
     Leave(u64),
     Move(u64, u64),
     Malformed,
-}
-
-// What bytes say as a number.
-enum Number {
-    Of(u64),
-    Nothing,
-}
-
-// Whether a byte is a digit.
-fn is_digit(b: u8) -> bool
-    ensures { λ r. ⌜ r ≡ isDigit b ⌝ }
-{
-    if b < b'0' {
-        return false;
-    }
-    b <= b'9'
-}
-
-// The number n with one digit behind it.
-fn with_digit(n: u64, b: u8) -> u64
-    requires { ⌜ (n ≤ 999) × (isDigit b ≡ true) ⌝ }
-    ensures { λ r. ⌜ r ≡ n * 10 + (b - 48) ⌝ }
-{
-    n * 10 + (b - b'0') as u64
-}
-
-// Whether there is one byte, or more of which the first is not `0`.
-fn no_leading_zero(part: &[u8]) -> bool
-    ensures { λ r. ⌜ r ≡ noLeadingZero (now (part .entry)) ⌝ }
-{
-    if part.len() == 0 {
-        return false;
-    }
-    if part.len() == 1 {
-        return true;
-    }
-    part[0] != b'0'
-}
-
-// The number that all of these bytes are.
-fn read_number(part: &[u8]) -> Number
-    ensures { λ r. ⌜ r ≡ number (now (part .entry)) ⌝ }
-{
-    if !no_leading_zero(part) {
-        return Number::Nothing;
-    }
-    let mut n = 0;
-    for i in 0..part.len() {
-        let b = part[i];
-        if !is_digit(b) {
-            return Number::Nothing;
-        }
-        n = with_digit(n, b);
-        if n > 999 {
-            return Number::Nothing;
-        }
-    }
-    Number::Of(n)
 }
 
 // A number's bit in a set.
@@ -173,6 +115,22 @@ fn starts_with(word: &[u8], line: &[u8]) -> bool
     true
 }
 
+// What a line means that is an event's, if it means anything.
+fn event_line(line: &[u8]) -> Line
+    ensures { λ r. ⌜ r ≡ eventForm (now (line .entry)) ⌝ }
+{
+    if starts_with(b"ask=", line) {
+        return ask_line(&line[4..]);
+    }
+    if starts_with(b"leave=", line) {
+        return leave_line(&line[6..]);
+    }
+    if starts_with(b"move=", line) {
+        return move_line(&line[5..]);
+    }
+    Line::Malformed
+}
+
 // What a line means.
 pub fn meaning(line: &[u8]) -> Line
     ensures { λ r. ⌜ r ≡ meaningOf (now (line .entry)) ⌝ }
@@ -186,14 +144,5 @@ pub fn meaning(line: &[u8]) -> Line
     if starts_with(b"set=", line) {
         return set_line(&line[4..]);
     }
-    if starts_with(b"ask=", line) {
-        return ask_line(&line[4..]);
-    }
-    if starts_with(b"leave=", line) {
-        return leave_line(&line[6..]);
-    }
-    if starts_with(b"move=", line) {
-        return move_line(&line[5..]);
-    }
-    Line::Malformed
+    event_line(line)
 }

@@ -1,4 +1,4 @@
--- `meaning`: the length, then the words in the definition's order.
+-- `meaning`: the length, then the first two words, then an event's line.
 use Prim.Native.Nat.{_≤_}
 use mathlib.Core.Path.{_≡_, sym, _∙_}
 use borrow.Author.Needs.{needs}
@@ -6,8 +6,8 @@ use borrow.Author.Tests.{le-leb, lt-leb}
 use denote.Ref.{now}
 use native.Mathlib.Omega.{arith}
 use lib.ListN.{length}
-use Rattle.player_grammar.specs.Grammar.{form, lineLimit, meaningOf}
-use Rattle.player_grammar.proofs.Words.{starts-length, behind, notSites, notSet, notAsk, notLeave}
+use Rattle.player_grammar.specs.Grammar.{eventForm, form, lineLimit, meaningOf}
+use Rattle.player_grammar.proofs.Words.{starts-length, behind, notSites}
 use Rattle.player_grammar.proofs.meaning.Statement.{statement}
 use Rattle.player_grammar.proofs.meaning.Tie as tie
 
@@ -20,17 +20,8 @@ not-sites : (c : tie.Else2) → meaningOf (now (c .before .before .before .befor
 unfolding form
 not-sites c = short (c .before .before .before) ∙ rw (sym (c .before .starts-with .ensures) ∙ c .if2 .left)
 
-not-set : (c : tie.Else3) → meaningOf (now (c .before .before .before .before .before .before .before .before .args .line)) ≡ notSet (now (c .before .before .before .before .before .before .before .before .args .line))
-unfolding form
+not-set : (c : tie.Else3) → meaningOf (now (c .before .before .before .before .before .before .before .before .args .line)) ≡ eventForm (now (c .before .before .before .before .before .before .before .before .args .line))
 not-set c = not-sites (c .before .before .before) ∙ rw (sym (c .before .starts-with2 .ensures) ∙ c .if3 .left)
-
-not-ask : (c : tie.Else4) → meaningOf (now (c .before .before .before .before .before .before .before .before .before .before .before .args .line)) ≡ notAsk (now (c .before .before .before .before .before .before .before .before .before .before .before .args .line))
-unfolding form
-not-ask c = not-set (c .before .before .before) ∙ rw (sym (c .before .starts-with3 .ensures) ∙ c .if4 .left)
-
-not-leave : (c : tie.Else5) → meaningOf (now (c .before .before .before .before .before .before .before .before .before .before .before .before .before .before .args .line)) ≡ notLeave (now (c .before .before .before .before .before .before .before .before .before .before .before .before .before .before .args .line))
-unfolding form
-not-leave c = not-ask (c .before .before .before) ∙ rw (sym (c .before .starts-with4 .ensures) ∙ c .if5 .left)
 
 -- a line that starts with a word is as long as the word
 sites-long : (c : tie.Then2) → 6 ≤ length (now (c .before .before .before .before .before .args .line))
@@ -38,15 +29,6 @@ sites-long c = starts-length _ _ (sym (c .before .starts-with .ensures) ∙ c .i
 
 set-long : (c : tie.Then3) → 4 ≤ length (now (c .before .before .before .before .before .before .before .before .args .line))
 set-long c = starts-length _ _ (sym (c .before .starts-with2 .ensures) ∙ c .if3 .taken)
-
-ask-long : (c : tie.Then4) → 4 ≤ length (now (c .before .before .before .before .before .before .before .before .before .before .before .args .line))
-ask-long c = starts-length _ _ (sym (c .before .starts-with3 .ensures) ∙ c .if4 .taken)
-
-leave-long : (c : tie.Then5) → 6 ≤ length (now (c .before .before .before .before .before .before .before .before .before .before .before .before .before .before .args .line))
-leave-long c = starts-length _ _ (sym (c .before .starts-with4 .ensures) ∙ c .if5 .taken)
-
-move-long : (c : tie.Then6) → 5 ≤ length (now (c .before .before .before .before .before .before .before .before .before .before .before .before .before .before .before .before .before .args .line))
-move-long c = starts-length _ _ (sym (c .before .starts-with5 .ensures) ∙ c .if6 .taken)
 
 returns : tie.Need-returns
 unfolding meaningOf
@@ -95,71 +77,11 @@ set-line-requires c κs = search needs
 returns-3 : tie.Need-returns-3
 returns-3 c = c .set-line .ensures ∙ rw (behind _ _) (sym (not-sites (c .before .before .before .before .before) ∙ rw (sym (c .before .before .before .starts-with2 .ensures) ∙ c .before .before .if3 .taken)))
 
-slice-aggregate-starts-with-3 : tie.Need-slice-aggregate-starts-with-3
-slice-aggregate-starts-with-3 c = search needs
-
-starts-with-requires-3 : tie.Need-starts-with-requires-3
-starts-with-requires-3 c κs = search needs
-
-sub-ask-line : tie.Need-sub-ask-line
-sub-ask-line c = ask-long c
-
-part-ask-line-start : tie.Need-part-ask-line-start
-part-ask-line-start c = ask-long c
-
-part-ask-line-end : tie.Need-part-ask-line-end
-part-ask-line-end c = search needs
-
-ask-line-requires : tie.Need-ask-line-requires
-ask-line-requires c κs = search needs
+event-line-requires : tie.Need-event-line-requires
+event-line-requires c κs = search needs
 
 returns-4 : tie.Need-returns-4
-returns-4 c = c .ask-line .ensures ∙ rw (behind _ _) (sym (not-set (c .before .before .before .before .before) ∙ rw (sym (c .before .before .before .starts-with3 .ensures) ∙ c .before .before .if4 .taken)))
-
-slice-aggregate-starts-with-4 : tie.Need-slice-aggregate-starts-with-4
-slice-aggregate-starts-with-4 c = search needs
-
-starts-with-requires-4 : tie.Need-starts-with-requires-4
-starts-with-requires-4 c κs = search needs
-
-sub-leave-line : tie.Need-sub-leave-line
-sub-leave-line c = leave-long c
-
-part-leave-line-start : tie.Need-part-leave-line-start
-part-leave-line-start c = leave-long c
-
-part-leave-line-end : tie.Need-part-leave-line-end
-part-leave-line-end c = search needs
-
-leave-line-requires : tie.Need-leave-line-requires
-leave-line-requires c κs = search needs
-
-returns-5 : tie.Need-returns-5
-returns-5 c = c .leave-line .ensures ∙ rw (behind _ _) (sym (not-ask (c .before .before .before .before .before) ∙ rw (sym (c .before .before .before .starts-with4 .ensures) ∙ c .before .before .if5 .taken)))
-
-slice-aggregate-starts-with-5 : tie.Need-slice-aggregate-starts-with-5
-slice-aggregate-starts-with-5 c = search needs
-
-starts-with-requires-5 : tie.Need-starts-with-requires-5
-starts-with-requires-5 c κs = search needs
-
-sub-move-line : tie.Need-sub-move-line
-sub-move-line c = move-long c
-
-part-move-line-start : tie.Need-part-move-line-start
-part-move-line-start c = move-long c
-
-part-move-line-end : tie.Need-part-move-line-end
-part-move-line-end c = search needs
-
-move-line-requires : tie.Need-move-line-requires
-move-line-requires c κs = search needs
-
-returns-6 : tie.Need-returns-6
-returns-6 c = c .move-line .ensures ∙ rw (behind _ _) (sym (not-leave (c .before .before .before .before .before) ∙ rw (sym (c .before .before .before .starts-with5 .ensures) ∙ c .before .before .if6 .taken)))
-
-returns-7 : tie.Need-returns-7
-returns-7 c = sym (not-leave (c .before .before .before) ∙ rw (sym (c .before .starts-with5 .ensures) ∙ c .if6 .left))
+returns-4 c = c .event-line .ensures ∙ sym (not-set (c .before))
 
 pub meaning-spec : {M : Type 1} → statement M
 meaning-spec =
@@ -180,25 +102,5 @@ meaning-spec =
     part-set-line-end
     set-line-requires
     returns-3
-    slice-aggregate-starts-with-3
-    starts-with-requires-3
-    sub-ask-line
-    part-ask-line-start
-    part-ask-line-end
-    ask-line-requires
-    returns-4
-    slice-aggregate-starts-with-4
-    starts-with-requires-4
-    sub-leave-line
-    part-leave-line-start
-    part-leave-line-end
-    leave-line-requires
-    returns-5
-    slice-aggregate-starts-with-5
-    starts-with-requires-5
-    sub-move-line
-    part-move-line-start
-    part-move-line-end
-    move-line-requires
-    returns-6
-    returns-7)
+    event-line-requires
+    returns-4)

@@ -7,7 +7,8 @@ use native.Mathlib.Numerals.{add-one}
 use native.Mathlib.Omega.{arith}
 use lib.ListN.{drop}
 use lib.Seq.{length-take-le}
-use Rattle.player_grammar.specs.Grammar.{number, before, numbers, moveLine}
+use Rattle.player_numbers.specs.Numbers.{number}
+use Rattle.player_grammar.specs.Grammar.{before, numbers, moveLine}
 use Rattle.player_grammar.proofs.Words.{behind}
 use Rattle.player_grammar.proofs.Lists.{comma, found-comma, numbers-comma, numbers-last, one-number, move-before, move-malformed, move-single}
 use borrow.Author.Needs.{needs}

@@ -7,7 +7,7 @@ use denote.Ref.{now}
 use native.Mathlib.Omega.{arith}
 use lib.ListN.{length}
 use Rattle.player_grammar.specs.Grammar.{before, numbers, setLine}
-use Rattle.player_grammar.proofs.Numbers.{number-limit}
+use Rattle.player_numbers.proofs.Numbers.{number-limit}
 use Rattle.player_grammar.proofs.Lists.{setFrom, numbersAt, found-comma, set-begun, set-ended, set-malformed, set-falls, set-rises, next-number}
 use Rattle.player_grammar.proofs.set_line.Statement.{statement}
 use Rattle.player_grammar.proofs.set_line.Tie as tie

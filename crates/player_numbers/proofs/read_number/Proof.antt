@@ -6,9 +6,9 @@ use borrow.Author.Tests.{not-true, not-false}
 use denote.Ref.{now}
 use native.Mathlib.Omega.{arith}
 use lib.ListN.{length, drop}
-use Rattle.player_grammar.proofs.Numbers.{numberFrom, number-begun, leading-zero, digit-at, other-at, too-large, number-ended}
-use Rattle.player_grammar.proofs.read_number.Statement.{statement}
-use Rattle.player_grammar.proofs.read_number.Tie as tie
+use Rattle.player_numbers.proofs.Numbers.{numberFrom, number-begun, leading-zero, digit-at, other-at, too-large, number-ended}
+use Rattle.player_numbers.proofs.read_number.Statement.{statement}
+use Rattle.player_numbers.proofs.read_number.Tie as tie
 
 abbrev Inv-loop : tie.InvT-loop
 Inv-loop part n₀ i₀ i-end n i = (i ≤ length part) × (i-end ≡ length part) × (n ≤ 999) × (numberFrom 0 part ≡ numberFrom n (drop i part))

@@ -10,9 +10,9 @@ use lib.Dec.{leb, eqb}
 use lib.ListN.{length, getD, drop, drop-of-length-le}
 use lib.Seq.{drop-cons}
 use Rattle.basics.proofs.Basics.{by-bool, and-split, and-second}
-use Rattle.player_grammar.specs.Grammar.{isDigit, allDigits, noLeadingZero, value, number}
-use Rattle.player_grammar.specs.declared.Number.{Number}
-use Rattle.player_grammar.specs.declared.Number.the-variants.{Of, Nothing}
+use Rattle.player_numbers.specs.Numbers.{isDigit, allDigits, noLeadingZero, value, number}
+use Rattle.player_numbers.specs.declared.Number.{Number}
+use Rattle.player_numbers.specs.declared.Number.the-variants.{Of, Nothing}
 
 -- what is left to read, behind the digits of n
 abbrev pub numberFrom : ℕ → List ℕ → Number

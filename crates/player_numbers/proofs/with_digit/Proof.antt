@@ -3,8 +3,8 @@ use borrow.Author.Needs.{needs}
 use borrow.Author.Tests.{leb-true}
 use lib.Dec.{leb}
 use Rattle.basics.proofs.Basics.{and-split}
-use Rattle.player_grammar.proofs.with_digit.Statement.{statement}
-use Rattle.player_grammar.proofs.with_digit.Tie as tie
+use Rattle.player_numbers.proofs.with_digit.Statement.{statement}
+use Rattle.player_numbers.proofs.with_digit.Tie as tie
 
 mul-result : tie.Need-mul-result
 mul-result c = search needs

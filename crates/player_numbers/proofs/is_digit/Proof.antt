@@ -1,7 +1,7 @@
 -- `is_digit`: the two bounds.
 use borrow.Author.Tests.{le-leb, lt-leb}
-use Rattle.player_grammar.proofs.is_digit.Statement.{statement}
-use Rattle.player_grammar.proofs.is_digit.Tie as tie
+use Rattle.player_numbers.proofs.is_digit.Statement.{statement}
+use Rattle.player_numbers.proofs.is_digit.Tie as tie
 
 returns : tie.Need-returns
 returns c = rw (lt-leb 48 _ (c .if1 .taken))

@@ -1,9 +1,9 @@
 -- `no_leading_zero`: none, one or more bytes.
 use borrow.Author.Needs.{needs}
 use denote.Ref.{now}
-use Rattle.player_grammar.proofs.Numbers.{no-byte, one-byte, more-bytes}
-use Rattle.player_grammar.proofs.no_leading_zero.Statement.{statement}
-use Rattle.player_grammar.proofs.no_leading_zero.Tie as tie
+use Rattle.player_numbers.proofs.Numbers.{no-byte, one-byte, more-bytes}
+use Rattle.player_numbers.proofs.no_leading_zero.Statement.{statement}
+use Rattle.player_numbers.proofs.no_leading_zero.Tie as tie
 
 returns : tie.Need-returns
 returns c = no-byte (now (c .before .args .part)) (c .if1 .taken)
