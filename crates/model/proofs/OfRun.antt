@@ -1,16 +1,14 @@
 -- The states of a run: the next one, and what holds of each.
-use Prim.Native.Nat.{_≤_}
 use mathlib.Core.Path.{_≡_, refl, sym, ap, _∙_}
 use mathlib.Core.Bool.{true}
 use mathlib.Core.List.{List, [], _∷_, _++_}
 use Rattle.rig.specs.declared.Event.{Event}
-use Rattle.rig.specs.Limits.{messageLimit}
 use Rattle.model.specs.Shape.{wellShaped}
 use Rattle.model.specs.State.{Stored}
 use Rattle.model.specs.Event.{event}
 use Rattle.model.specs.Run.{fresh, run, OfRun, Sound, Demand3}
 use Rattle.model.specs.Always.{AlwaysShaped}
-use Rattle.model.proofs.Theorem.{run-of, demand3}
+use Rattle.model.proofs.Theorem.{demand3}
 use Rattle.model.proofs.Always.{always-shaped}
 
 run-more : (s : Stored) (es : List Event) (e : Event) → run s (es ++ e ∷ []) ≡ event (run s es) e .next
@@ -32,9 +30,6 @@ module _ {s : Stored} (r : OfRun s) where
   pub run-shaped : wellShaped s ≡ true
   unfolding AlwaysShaped
   run-shaped = rw (r .same) (always-shaped (r .size) (r .sets) (r .list) (r .events) (r .passed) .0)
-
-  pub run-few : s .count ≤ messageLimit
-  run-few = rw (r .same) (run-of (r .size) (r .sets) (r .list) (r .events) (r .passed) .few)
 
   pub run-sound : Sound s
   unfolding Demand3
