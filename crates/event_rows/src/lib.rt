@@ -16,10 +16,10 @@ ghost use mathlib.Core.Bool.{true};
 ghost use Prim.Native.Nat.{_≤_};
 ghost use Rattle.rig.specs.Limits.{messageLimit};
 ghost use Rattle.model.specs.Shape.{wellShaped};
-ghost use Rattle.model.specs.Event.{tested};
 ghost use Rattle.list_rows.specs.Rows.{ZeroPast};
 ghost use Rattle.list_rows.specs.State.{stored, before, after};
 ghost use Rattle.event_storing.specs.Outbox.{Sends};
+ghost use Rattle.event_rows.specs.Tested.{testedWith};
 ghost use Rattle.event_rows.specs.Steps.{Steps, attemptOn};
 
 // An inner call: an event on a well-shaped state whose rows past the count are zeros, without a test of either. Both hold of the next
@@ -64,11 +64,22 @@ pub fn step(
     }
 }
 
-// An inner call: an event on any state with at most 1,024 messages under way, whose rows past them are zeros: 10 where it is misshapen.
-pub fn event(rig: Rig, tables: &mut Tables, list: &mut Rows, count: usize, e: Event) -> Answer
-    requires { ⌜ (count ≤ messageLimit) × ZeroPast count (now list) ⌝ }
-    ensures { λ r. ⌜ after r tables list ≡ tested (before rig tables list count) e ⌝ }
+// An inner call: an event on any state whose list got that code and whose rows past the count are zeros: the code, where it is not 0, then
+// 10 where the state is misshapen.
+pub fn event(
+    rig: Rig,
+    tables: &mut Tables,
+    list: &mut Rows,
+    code: u64,
+    count: usize,
+    e: Event,
+) -> Answer
+    requires { ⌜ (code ≡ 0 → count ≤ messageLimit) × ZeroPast count (now list) ⌝ }
+    ensures { λ r. ⌜ after r tables list ≡ testedWith code (before rig tables list count) e ⌝ }
 {
+    if code != 0 {
+        return Answer::refused(code, rig, count);
+    }
     if !well_shaped(rig, tables, list, count) {
         return Answer::refused(10, rig, count);
     }
