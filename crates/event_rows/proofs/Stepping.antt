@@ -1,10 +1,10 @@
 -- The rig with an event's outcome stored at its site is the state that the event leaves.
 use Prim.Native.Nat.{ℕ, _+_, _-_}
 use mathlib.Core.Path.{_≡_, refl, sym, ap, subst, _∙_}
-use mathlib.Core.Bool.{Bool, true, false, cond}
+use mathlib.Core.Bool.{true, false}
 use mathlib.Core.List.{List, [], map}
 use lib.Dec.{eqb}
-use lib.ListN.{length, getD, set}
+use lib.ListN.{getD, set}
 use lib.Seq.{set-getD}
 use borrow.Author.Tests.{eq-eqb}
 use Rattle.basics.proofs.Basics.{by-bool, clash, and-second}
@@ -17,16 +17,14 @@ use Rattle.rig.specs.Limits.{HELD, HEIR, INQUIRED, QUEUED, messageLimit}
 use Rattle.model.specs.Tables.{put}
 use Rattle.model.specs.Setup.{restingSite, freeArbiter}
 use Rattle.model.specs.State.{Stored, underWay, inRange, tables, withDesk, withAccepted, deskOf}
-use Rattle.model.specs.Event.{actor, sitesNamed, Attempt, refused, possible, attempt, effectCode, Outcome, outcome, judged, eventAt, Answer, answer, acceptedState, settled, played, tested, event}
-use Rattle.model.specs.Shape.{wellShaped}
-use Rattle.model.specs.Run.{OfRun}
+use Rattle.model.specs.Event.{actor, sitesNamed, Attempt, refused, possible, attempt, effectCode, Outcome, judged, eventAt, Answer, answer, acceptedState, settled, played, tested, event}
 use Rattle.model.proofs.Tables.{put-write, put-self}
 use Rattle.model.proofs.Shaped.{within}
 use Rattle.model.proofs.OfRun.{next-of-run, run-shaped}
 use Rattle.model.proofs.Codes.{event-long}
 use Rattle.list_rows.specs.Rows.{messageOf}
 use Rattle.list_rows.specs.State.{stored}
-use Rattle.event_desks.specs.Parts.{deskAt, withRows}
+use Rattle.event_desks.specs.Parts.{withRows}
 use Rattle.event_storing.specs.declared.Done.{Done}
 use Rattle.event_storing.specs.Leaves.{Left, messagesIn}
 use Rattle.event_sites.specs.Places.{placeOf, countedOn}
