@@ -21,7 +21,8 @@ use Rattle.list_rows.specs.State.{stored as in-rows}
 use Rattle.list_exchange.proofs.Zeros.{pasted-blank}
 use Rattle.list_lent.specs.First.{firstIn}
 use Rattle.event_sites.specs.Places.{senderOf, receiverOf}
-use Rattle.engine_parts.specs.Parts.{listCode, readOf, blankRows, judgedRows, changedFrom}
+use Rattle.event_rows.specs.Tested.{testedWith}
+use Rattle.engine_parts.specs.Parts.{listCode, readOf, blankRows, changedFrom}
 use Rattle.engine.specs.Lent.{stored, answered}
 use Rattle.engine.proofs.Lent.{relisted, read-rows, from-fits, from-long, composed}
 
@@ -79,13 +80,13 @@ module _ (g : Rig) (ts : List (List (List ℕ))) (ys : List Message) (n : ℕ) (
   start code = changedFrom code (firstIn (senderOf e) (receiverOf e) (take read ys)) n (length ys)
 
   module _ (blank-is : blank ≡ blankRows) (before-is : before ≡ paste blank 0 (map rowOf ys) read)
-      (said : M.answer (r .code) (in-rows (r .rig) ts′ after (r .count)) ≡ judgedRows (listCode n (length ys)) (in-rows g ts before n) e) where
+      (said : M.answer (r .code) (in-rows (r .rig) ts′ after (r .count)) ≡ testedWith (listCode n (length ys)) (in-rows g ts before n) e) where
     same : length ys ≡ messageLimit → n ≤ messageLimit → take n (map messageOf before) ≡ take n ys
     same f k =
         let all : read ≡ n = rw (eq-eqb (length ys) messageLimit f, le-ltb messageLimit n k) in
         rw (before-is, blank-is, all) (read-rows ys n (omega arith) k)
 
-    code-is : r .code ≡ judgedRows (listCode n (length ys)) (in-rows g ts before n) e .code
+    code-is : r .code ≡ testedWith (listCode n (length ys)) (in-rows g ts before n) e .code
     code-is = ap (λ (a : M.Answer). a .code) said
 
     pub from-in : start (r .code) ≤ length ys

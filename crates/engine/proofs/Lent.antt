@@ -27,7 +27,8 @@ use Rattle.list_search.specs.Places.{placeFrom}
 use Rattle.list_rows.specs.Rows.{rowOf, messageOf}
 use Rattle.list_lent.specs.First.{firstIn}
 use Rattle.event_sites.specs.Places.{senderOf, receiverOf}
-use Rattle.engine_parts.specs.Parts.{listCode, readOf, blankRows, judgedRows, placeFound, changedFrom}
+use Rattle.event_rows.specs.Tested.{testedWith}
+use Rattle.engine_parts.specs.Parts.{listCode, readOf, blankRows, placeFound, changedFrom}
 
 -- an answer, with another list in the state that it leaves
 abbrev pub relisted : List Message → M.Answer → M.Answer
@@ -190,7 +191,7 @@ module _ (t : Tables) (L l : List Message) (n : ℕ) (e : Event) where
   read = readOf code n
 
   abbrev told : M.Answer
-  told = judgedRows code copy e
+  told = testedWith code copy e
 
   abbrev from : ℕ
   from = changedFrom (told .code) (firstIn (senderOf e) (receiverOf e) (take read L)) n (length L)
@@ -217,11 +218,11 @@ module _ (t : Tables) (L l : List Message) (n : ℕ) (e : Event) where
 
   -- 13 for both lists, and else what the tests say
   wrong-length : eqb (length L) messageLimit ≡ false → (told ≡ M.answer 13 copy) × (M.event whole e ≡ M.answer 13 whole)
-  unfolding judgedRows M.event
+  unfolding testedWith M.event
   wrong-length a = (rw a, rw a)
 
   right-length : eqb (length L) messageLimit ≡ true → (told ≡ M.tested copy e) × (M.event whole e ≡ M.tested whole e)
-  unfolding judgedRows M.event
+  unfolding testedWith M.event
   right-length a = (
     by-bool (ltb messageLimit n)
         (λ b. rw (a, b) (sym (too-many copy (lt-leb n messageLimit (ltb-true messageLimit n b)))))

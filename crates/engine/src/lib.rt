@@ -2,7 +2,6 @@
 use engine_parts::blank_rows;
 use engine_parts::changed_from;
 use engine_parts::list_code;
-use engine_parts::on_rows;
 use engine_parts::read_count;
 use event_sites::receiver;
 use event_sites::sender;
@@ -28,7 +27,7 @@ pub fn event(rig: Rig, tables: &mut Tables, list: &mut [Message], count: usize, 
     let found = first(list, n, sender(e), receiver(e));
     let mut rows = blank_rows();
     to_rows(list, n, &mut rows);
-    let r = on_rows(rig, tables, &mut rows, code, count, e);
+    let r = event_rows::event(rig, tables, &mut rows, code, count, e);
     rewrite(list, changed_from(r.code, found, count, len), &rows);
     r
 }

@@ -4,10 +4,7 @@ use mathlib.Core.Bool.{not, cond}
 use mathlib.Core.List.{List}
 use lib.Dec.{eqb, ltb}
 use lib.ListN.{replicate}
-use Rattle.rig.specs.declared.Event.{Event}
 use Rattle.rig.specs.Limits.{messageLimit}
-use Rattle.model.specs.State.{Stored}
-use Rattle.model.specs.Event.{Answer, answer, tested}
 use Rattle.list_search.specs.declared.Found.{Found}
 use Rattle.list_search.specs.declared.Found.the-variants.{At, Nowhere}
 use Rattle.list_rows.specs.Rows.{zeroRow}
@@ -22,10 +19,6 @@ readOf code count = cond (not (eqb code 0)) 0 count
 
 abbrev pub blankRows : List (List ℕ)
 blankRows = replicate messageLimit zeroRow
-
--- an event on a state in rows, read from a lent list that got that code
-unfoldable pub judgedRows : ℕ → Stored → Event → Answer
-judgedRows code s e = cond (not (eqb code 0)) (answer code s) (tested s e)
 
 -- the place from which an event changes the list
 abbrev pub placeFound : ℕ → Found → ℕ

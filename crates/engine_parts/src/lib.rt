@@ -1,17 +1,10 @@
-// What the engine's public call does besides lending its list: each part over plain numbers.
+// What the engine's public call does besides lending its list and playing the event: each part over plain numbers.
 use list_rows::Rows;
 use list_search::Found;
-use rig::Answer;
-use rig::Event;
 use rig::Message;
 use rig::Rig;
-use rig::Tables;
 ghost use mathlib.Core.Path.{_≡_};
-ghost use Prim.Native.Nat.{_≤_};
-ghost use Rattle.rig.specs.Limits.{messageLimit};
-ghost use Rattle.list_rows.specs.Rows.{ZeroPast};
-ghost use Rattle.list_rows.specs.State.{before, after};
-ghost use Rattle.engine_parts.specs.Parts.{listCode, readOf, blankRows, judgedRows, changedFrom};
+ghost use Rattle.engine_parts.specs.Parts.{listCode, readOf, blankRows, changedFrom};
 
 // The code that the list's length or its count gets: 13, 10, or 0 where both pass.
 pub fn list_code(count: usize, len: usize) -> u64
@@ -41,24 +34,6 @@ pub fn blank_rows() -> Rows
     ensures { λ r. ⌜ r ≡ blankRows ⌝ }
 {
     [[0; Message::FIELDS]; Rig::MESSAGES]
-}
-
-// An inner call: one event on rows, where the list that they were read from got that code.
-pub fn on_rows(
-    rig: Rig,
-    tables: &mut Tables,
-    rows: &mut Rows,
-    code: u64,
-    count: usize,
-    e: Event,
-) -> Answer
-    requires { ⌜ (code ≡ 0 → count ≤ messageLimit) × ZeroPast count (now rows) ⌝ }
-    ensures { λ r. ⌜ after r tables rows ≡ judgedRows code (before rig tables rows count) e ⌝ }
-{
-    if code != 0 {
-        return Answer::refused(code, rig, count);
-    }
-    event_rows::event(rig, tables, rows, count, e)
 }
 
 // The place from which an event changes the list: where its message was found, behind the last message where it takes none off, and

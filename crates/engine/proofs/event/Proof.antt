@@ -1,5 +1,5 @@
 -- `event`: a walk of its MIR by hand. The list is lent as `&` to `first` and `to_rows`, each for a lifetime made for the call; the rows, a local
--- array, are lent to `to_rows` as a slice, to `on_rows` as the whole array and to `rewrite` as a slice again; the tables go to `on_rows` for good,
+-- array, are lent to `to_rows` as a slice, to `event_rows::event` as the whole array and to `rewrite` as a slice again; the tables go to `event_rows::event` for good,
 -- and the list, closed, to `rewrite`.
 use mathlib.Core.Path.{_≡_, refl, sym, ap, subst, _∙_}
 use Prim.Native.Nat.{ℕ, _-_, _≤_, _<_, _^_}
@@ -64,7 +64,8 @@ use Rattle.list_rows.specs.Rows.{rowOf, messageOf, ZeroPast}
 use Rattle.list_rows.specs.State.{stored as in-rows}
 use Rattle.list_lent.specs.First.{firstIn}
 use Rattle.event_sites.specs.Places.{senderOf, receiverOf}
-use Rattle.engine_parts.specs.Parts.{listCode, readOf, blankRows, judgedRows, changedFrom}
+use Rattle.event_rows.specs.Tested.{testedWith}
+use Rattle.engine_parts.specs.Parts.{listCode, readOf, blankRows, changedFrom}
 use Rattle.engine.specs.Lent.{stored, answered}
 use Rattle.engine.proofs.Joined.{code-few, read-in, read-few, zero-past, from-in, from-full, joined}
 use Rattle.rig.proofs.Rig as G
@@ -104,10 +105,10 @@ use Rattle.list_copy.proofs.to_rows as to-rows
 use Rattle.list_copy.proofs.to_rows.Symbol as to-rows-def
 use Rattle.list_copy.proofs.to_rows.Symbol.{name as #list-copy·to-rows}
 use Rattle.list_copy.proofs.to_rows.Met as to-rows-thm
-use Rattle.engine_parts.proofs.on_rows as on-rows
-use Rattle.engine_parts.proofs.on_rows.Symbol as on-rows-def
-use Rattle.engine_parts.proofs.on_rows.Symbol.{name as #engine-parts·on-rows}
-use Rattle.engine_parts.proofs.on_rows.Met as on-rows-thm
+use Rattle.event_rows.proofs.event as on-rows
+use Rattle.event_rows.proofs.event.Symbol as on-rows-def
+use Rattle.event_rows.proofs.event.Symbol.{name as #event-rows·event}
+use Rattle.event_rows.proofs.event.Met as on-rows-thm
 use Rattle.engine_parts.proofs.changed_from as changed-from
 use Rattle.engine_parts.proofs.changed_from.Symbol as changed-from-def
 use Rattle.engine_parts.proofs.changed_from.Symbol.{name as #engine-parts·changed-from}
@@ -248,9 +249,9 @@ module _ {M : Type 1} (𝓤 : URA M) (H : Heap 𝓤) (A : Atoms 𝓤) (W : Given
   abbrev rows : ℕ → GName → List (List ℕ) → RefT (List (List ℕ))
   rows b δ rs = record { ptr = (b, 0); name = δ; now = rs }
 
-  -- what `on_rows` is said to answer
+  -- what `event_rows::event` is said to answer
   abbrev Says : Answer → List (List (List ℕ)) → List (List ℕ) → List (List ℕ) → Type 0
-  Says r ts after before = Model.answer (r .code) (in-rows (r .rig) ts after (r .count)) ≡ judgedRows c (in-rows g (t .now) before n) e
+  Says r ts after before = Model.answer (r .code) (in-rows (r .rig) ts after (r .count)) ≡ testedWith c (in-rows g (t .now) before n) e
 
   exits : (r : Answer) (ts : List (List (List ℕ))) (zs : List Message) → length zs ≡ length ys → answered r ts zs ≡ Model.event (stored g (t .now) ys n) e → Is K.the-row r (answer-vals r)
       → ent 𝓤 (⋆ 𝓤 H A (‵ (flft κ₀ q₀) ∷ ‵ (flft κ₁ q₁) ∷ ‵ (fres (t .name) (Tabs .coded .code ts)) ∷ ‵ (finally T.the-row γ zs) ∷ [])) (Post (only (answer-vals r)))
@@ -386,7 +387,7 @@ module _ {M : Type 1} (𝓤 : URA M) (H : Heap 𝓤) (A : Atoms 𝓤) (W : Given
   full : (rs : List (List ℕ)) → length rs ≡ 1024 → Room Five (length rs)
   full rs l = subst (Room Five) (sym l) (lit< tt, lit< tt)
 
-  module _ (C : Calls 𝓤 H) (Λ : Loops 𝓤 H) (fm : FmC 𝓤 H (W .laws) C) (known-list-code : Triple 𝓤 (C #engine-parts·list-code) (ListCode 𝓤 H A mem′ run)) (known-read-count : Triple 𝓤 (C #engine-parts·read-count) (ReadCount 𝓤 H A mem′ run)) (known-sender : Triple 𝓤 (C #event-sites·sender) (Sender 𝓤 H A mem′ run)) (known-receiver : Triple 𝓤 (C #event-sites·receiver) (Receiver 𝓤 H A mem′ run)) (known-first : Triple 𝓤 (C #list-lent·first) (First 𝓤 H A mem′ run)) (known-blank-rows : Triple 𝓤 (C #engine-parts·blank-rows) (Blank 𝓤 H A mem′ run)) (known-to-rows : Triple 𝓤 (C #list-copy·to-rows) (ToRows 𝓤 H A mem′ run)) (known-on-rows : Triple 𝓤 (C #engine-parts·on-rows) (OnRows 𝓤 H A mem′ run)) (known-changed-from : Triple 𝓤 (C #engine-parts·changed-from) (ChangedFrom 𝓤 H A mem′ run)) (known-rewrite : Triple 𝓤 (C #list-copy·rewrite) (Rewrite 𝓤 H A mem′ run)) where
+  module _ (C : Calls 𝓤 H) (Λ : Loops 𝓤 H) (fm : FmC 𝓤 H (W .laws) C) (known-list-code : Triple 𝓤 (C #engine-parts·list-code) (ListCode 𝓤 H A mem′ run)) (known-read-count : Triple 𝓤 (C #engine-parts·read-count) (ReadCount 𝓤 H A mem′ run)) (known-sender : Triple 𝓤 (C #event-sites·sender) (Sender 𝓤 H A mem′ run)) (known-receiver : Triple 𝓤 (C #event-sites·receiver) (Receiver 𝓤 H A mem′ run)) (known-first : Triple 𝓤 (C #list-lent·first) (First 𝓤 H A mem′ run)) (known-blank-rows : Triple 𝓤 (C #engine-parts·blank-rows) (Blank 𝓤 H A mem′ run)) (known-to-rows : Triple 𝓤 (C #list-copy·to-rows) (ToRows 𝓤 H A mem′ run)) (known-on-rows : Triple 𝓤 (C #event-rows·event) (OnRows 𝓤 H A mem′ run)) (known-changed-from : Triple 𝓤 (C #engine-parts·changed-from) (ChangedFrom 𝓤 H A mem′ run)) (known-rewrite : Triple 𝓤 (C #list-copy·rewrite) (Rewrite 𝓤 H A mem′ run)) where
     walk : ent 𝓤 (onEntry 𝓤 H A event.signature (κ₀, (κ₁, tt)) (q₀, (q₁, tt)) x at) (WpFn 𝓤 H C Λ code.function (only (rig-vals g) ∷ ptr-val t ∷ s ∷ vint w64 n ∷ only (event-vals e) ∷ []) Post)
     walk =
         qed W ((‵ (flft κ₀ q₀) ⊛ (‵ (flft κ₁ q₁) ⊛ ‵ ftrue)) ∷ ‵ (owns (G.the-row ∷ MutRef (named 0) κ₀ Tabs ∷ MutSlice (named 1) κ₁ T.the-row ∷ usize ∷ E.the-row ∷ []) x at) ∷ []) ∵
@@ -469,7 +470,7 @@ module _ {M : Type 1} (𝓤 : URA M) (H : Heap 𝓤) (A : Atoms 𝓤) (W : Given
         -- `&mut *tables` and `&mut rows`
         assigns ! (addr ! (from ! (hop ! (look ! 56 refl) (stop !)))) (from ! (stop !)) (init ! 17 refl (tt, tt)) $
         assigns ! (addr ! (from ! (stop !))) (from ! (stop !)) (init ! 15 refl (tt, tt)) $
-        -- the tables go to `on_rows` for good; the rows are lent to it, as one array
+        -- the tables go to `event_rows::event` for good; the rows are lent to it, as one array
         lft-new ! tt (λ β₂. move ! (1 ∷ []) $ use1 W (later (some (λ (δ : GName). ‵ (MutRef (named 1) (β₂ ∷ []) B .own (rows l₁₀ δ (ws .1 .1 .0)) (vptr l₁₀ 0 ∷ [])) ⊛ ‵ (flent (β₂ ∷ []) (Body (mem B) l₁₀ 0 δ))))) (lends-ref 𝓤 H A W B (named 1) (β₂ ∷ []) (ws .1 .1 .0) l₁₀ 0) $ await ! tt $ pick ! (λ ε₂. split ! $
         move ! (65 ∷ 2 ∷ 64 ∷ 0 ∷ []) $
         group ! 4 $ use1 W (raw (OnRows 𝓤 H A mem′ run .pre (to-on-rows β₂ l₁₀ ε₂ (ws .1 .1 .0)))) (goes-on-rows β₂ l₁₀ ε₂ (ws .1 .1 .0) (small v₀ r₀ c p₀ is₀) (code-few n (length ys), zero-past n ys rs (ws .1 .1 .0) p₅ p₆)) $
@@ -529,7 +530,7 @@ module _ {M : Type 1} (𝓤 : URA M) (H : Heap 𝓤) (A : Atoms 𝓤) (W : Given
         code-small v r is = LL.owed K.the-type K′.the-laws r (v ∷ []) is .0 .1
 
 module _ {M : Type 1} (𝓤 : URA M) (H : Heap 𝓤) (A : Atoms 𝓤) (W : Given 𝓤 H A) (mem′ : Memory → SProp 𝓤) (run : Routine → Fun 𝓤) where
-  event-walks : (C : Calls 𝓤 H) (Λ : Loops 𝓤 H) → FmC 𝓤 H (W .laws) C → Triple 𝓤 (C #engine-parts·list-code) (ListCode 𝓤 H A mem′ run) → Triple 𝓤 (C #engine-parts·read-count) (ReadCount 𝓤 H A mem′ run) → Triple 𝓤 (C #event-sites·sender) (Sender 𝓤 H A mem′ run) → Triple 𝓤 (C #event-sites·receiver) (Receiver 𝓤 H A mem′ run) → Triple 𝓤 (C #list-lent·first) (First 𝓤 H A mem′ run) → Triple 𝓤 (C #engine-parts·blank-rows) (Blank 𝓤 H A mem′ run) → Triple 𝓤 (C #list-copy·to-rows) (ToRows 𝓤 H A mem′ run) → Triple 𝓤 (C #engine-parts·on-rows) (OnRows 𝓤 H A mem′ run) → Triple 𝓤 (C #engine-parts·changed-from) (ChangedFrom 𝓤 H A mem′ run) → Triple 𝓤 (C #list-copy·rewrite) (Rewrite 𝓤 H A mem′ run)
+  event-walks : (C : Calls 𝓤 H) (Λ : Loops 𝓤 H) → FmC 𝓤 H (W .laws) C → Triple 𝓤 (C #engine-parts·list-code) (ListCode 𝓤 H A mem′ run) → Triple 𝓤 (C #engine-parts·read-count) (ReadCount 𝓤 H A mem′ run) → Triple 𝓤 (C #event-sites·sender) (Sender 𝓤 H A mem′ run) → Triple 𝓤 (C #event-sites·receiver) (Receiver 𝓤 H A mem′ run) → Triple 𝓤 (C #list-lent·first) (First 𝓤 H A mem′ run) → Triple 𝓤 (C #engine-parts·blank-rows) (Blank 𝓤 H A mem′ run) → Triple 𝓤 (C #list-copy·to-rows) (ToRows 𝓤 H A mem′ run) → Triple 𝓤 (C #event-rows·event) (OnRows 𝓤 H A mem′ run) → Triple 𝓤 (C #engine-parts·changed-from) (ChangedFrom 𝓤 H A mem′ run) → Triple 𝓤 (C #list-copy·rewrite) (Rewrite 𝓤 H A mem′ run)
       → Walks 𝓤 H A event.ended stayed (WpFn 𝓤 H C Λ code.function) (event.clauses 𝓤 H A mem′ run)
   event-walks C Λ fm k₀ k₁ k₂ k₃ k₄ k₅ k₆ k₇ k₈ k₉ = walked 𝓤 H A event.ended stayed (event.clauses 𝓤 H A mem′ run) (WpFn 𝓤 H C Λ code.function)
       (λ κs. (rig-vals, (ptr-vals, (slice-vals, (uint-vals w64, (event-vals, tt))))))
@@ -545,7 +546,7 @@ module _ {M : Type 1} (𝓤 : URA M) (H : Heap 𝓤) (A : Atoms 𝓤) (W : Given
     (goes-gave-ref 𝓤 H A W 2 0 tt tabs, (goes-gave-slice 𝓤 H A W 2 1 tt (plain (λ _. T.the-row)), (goes-dropped 𝓤 H A W 2 (plain (λ _. usize)) yes (λ κs x f. refl), (goes-dropped 𝓤 H A W 2 (plain (λ _. E.the-row)) yes (λ κs x f. refl), tt)))),
   )
 
-event-meets : {M : Type 1} (𝓤 : URA M) (H : Heap 𝓤) (A : Atoms 𝓤) (W : Given 𝓤 H A) (mem′ : Memory → SProp 𝓤) (run : Routine → Fun 𝓤) (𝓣 : Tables 𝓤 H) → Triple 𝓤 (𝓣 .C #engine-parts·list-code) (ListCode 𝓤 H A mem′ run) → Triple 𝓤 (𝓣 .C #engine-parts·read-count) (ReadCount 𝓤 H A mem′ run) → Triple 𝓤 (𝓣 .C #event-sites·sender) (Sender 𝓤 H A mem′ run) → Triple 𝓤 (𝓣 .C #event-sites·receiver) (Receiver 𝓤 H A mem′ run) → Triple 𝓤 (𝓣 .C #list-lent·first) (First 𝓤 H A mem′ run) → Triple 𝓤 (𝓣 .C #engine-parts·blank-rows) (Blank 𝓤 H A mem′ run) → Triple 𝓤 (𝓣 .C #list-copy·to-rows) (ToRows 𝓤 H A mem′ run) → Triple 𝓤 (𝓣 .C #engine-parts·on-rows) (OnRows 𝓤 H A mem′ run) → Triple 𝓤 (𝓣 .C #engine-parts·changed-from) (ChangedFrom 𝓤 H A mem′ run) → Triple 𝓤 (𝓣 .C #list-copy·rewrite) (Rewrite 𝓤 H A mem′ run)
+event-meets : {M : Type 1} (𝓤 : URA M) (H : Heap 𝓤) (A : Atoms 𝓤) (W : Given 𝓤 H A) (mem′ : Memory → SProp 𝓤) (run : Routine → Fun 𝓤) (𝓣 : Tables 𝓤 H) → Triple 𝓤 (𝓣 .C #engine-parts·list-code) (ListCode 𝓤 H A mem′ run) → Triple 𝓤 (𝓣 .C #engine-parts·read-count) (ReadCount 𝓤 H A mem′ run) → Triple 𝓤 (𝓣 .C #event-sites·sender) (Sender 𝓤 H A mem′ run) → Triple 𝓤 (𝓣 .C #event-sites·receiver) (Receiver 𝓤 H A mem′ run) → Triple 𝓤 (𝓣 .C #list-lent·first) (First 𝓤 H A mem′ run) → Triple 𝓤 (𝓣 .C #engine-parts·blank-rows) (Blank 𝓤 H A mem′ run) → Triple 𝓤 (𝓣 .C #list-copy·to-rows) (ToRows 𝓤 H A mem′ run) → Triple 𝓤 (𝓣 .C #event-rows·event) (OnRows 𝓤 H A mem′ run) → Triple 𝓤 (𝓣 .C #engine-parts·changed-from) (ChangedFrom 𝓤 H A mem′ run) → Triple 𝓤 (𝓣 .C #list-copy·rewrite) (Rewrite 𝓤 H A mem′ run)
     → Meets 𝓤 H A event.signature (WpFn 𝓤 H (𝓣 .C) (𝓣 .Λ) code.function) (event.spec 𝓤 H A mem′ run)
 event-meets 𝓤 H A W mem′ run 𝓣 k₀ k₁ k₂ k₃ k₄ k₅ k₆ k₇ k₈ k₉ =
     walk-meets 𝓤 H A event.ended stayed W (goes 𝓤 H A W mem′ run) (event.clauses 𝓤 H A mem′ run)
@@ -564,6 +565,6 @@ event-spec 𝓤 H 𝓜 𝓖 𝓡 =
     (cited 𝓤 H (First 𝓤 H (𝓖 .A) (𝓜 .mem) (𝓡 .run)) 𝓜 𝓡 code.env #list-lent·first first-def.routine code.calls-list-lent·first (first-thm.met 𝓤 H 𝓜 𝓖 𝓡))
     (cited 𝓤 H (Blank 𝓤 H (𝓖 .A) (𝓜 .mem) (𝓡 .run)) 𝓜 𝓡 code.env #engine-parts·blank-rows blank-rows-def.routine code.calls-engine-parts·blank-rows (blank-rows-thm.met 𝓤 H 𝓜 𝓖 𝓡))
     (cited 𝓤 H (ToRows 𝓤 H (𝓖 .A) (𝓜 .mem) (𝓡 .run)) 𝓜 𝓡 code.env #list-copy·to-rows to-rows-def.routine code.calls-list-copy·to-rows (to-rows-thm.met 𝓤 H 𝓜 𝓖 𝓡))
-    (cited 𝓤 H (OnRows 𝓤 H (𝓖 .A) (𝓜 .mem) (𝓡 .run)) 𝓜 𝓡 code.env #engine-parts·on-rows on-rows-def.routine code.calls-engine-parts·on-rows (on-rows-thm.met 𝓤 H 𝓜 𝓖 𝓡))
+    (cited 𝓤 H (OnRows 𝓤 H (𝓖 .A) (𝓜 .mem) (𝓡 .run)) 𝓜 𝓡 code.env #event-rows·event on-rows-def.routine code.calls-event-rows·event (on-rows-thm.met 𝓤 H 𝓜 𝓖 𝓡))
     (cited 𝓤 H (ChangedFrom 𝓤 H (𝓖 .A) (𝓜 .mem) (𝓡 .run)) 𝓜 𝓡 code.env #engine-parts·changed-from changed-from-def.routine code.calls-engine-parts·changed-from (changed-from-thm.met 𝓤 H 𝓜 𝓖 𝓡))
     (cited 𝓤 H (Rewrite 𝓤 H (𝓖 .A) (𝓜 .mem) (𝓡 .run)) 𝓜 𝓡 code.env #list-copy·rewrite rewrite-def.routine code.calls-list-copy·rewrite (rewrite-thm.met 𝓤 H 𝓜 𝓖 𝓡)))

@@ -33,7 +33,7 @@ refused-requires-2 c κs = search needs
 returns-2 : tie.Need-returns-2
 unfolding testedWith tested
 returns-2 c =
-    let a = c .before .before .before .before .before .before .before .args in
+    let a = c .before .before .before .before .before .before .args in
     let s = stored (a .rig) (now (a .tables)) (now (a .list)) (a .count) in
     let told : testedWith (a .code) s (a .e) ≡ answer 10 s = rw (eq-eqb _ _ (c .before .before .before .before .before .if1 .left), sym (c .before .before .well-shaped .ensures) ∙ not-true _ (c .before .if2 .taken)) in
     rw (c .refused2 .ensures) (sym told)
@@ -43,7 +43,7 @@ step-requires c κs = (sym (c .before .before .before .before .well-shaped .ensu
 
 returns-3 : tie.Need-returns-3
 unfolding testedWith tested
-returns-3 c = rw (eq-eqb _ _ (c .before .before .before .before .before .before .before .if1 .left), sym (c .before .before .before .before .before .well-shaped .ensures) ∙ not-false _ (c .before .before .before .before .if2 .left)) (c .step .ensures .0 .answer)
+returns-3 c = rw (eq-eqb _ _ (c .before .before .before .before .before .before .before .before .if1 .left), sym (c .before .before .before .before .before .well-shaped .ensures) ∙ not-false _ (c .before .before .before .before .if2 .left)) (c .step .ensures .0 .answer)
 
 pub event-spec : {M : Type 1} → statement M
 event-spec =
