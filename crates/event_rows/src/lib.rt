@@ -25,7 +25,7 @@ ghost use Rattle.event_rows.specs.Steps.{Steps, attemptOn};
 // An inner call: an event on a well-shaped state whose rows past the count are zeros, without a test of either. Both hold of the next
 // state of a run, so that a caller who alone has the state needs no tests. `out` is room for what is sent: no row of it is read.
 pub fn step(
-    rig: Rig,
+    mut rig: Rig,
     tables: &mut Tables,
     list: &mut Rows,
     out: &mut Outbox,
@@ -51,15 +51,14 @@ pub fn step(
         out,
         e,
     );
-    let mut next = rig;
     let site_after = done.site;
-    next.sites[i] = site_after;
+    rig.sites[i] = site_after;
     let arbiter_after = done.arbiter;
-    next.arbiters[i] = arbiter_after;
-    next.accepted = counted_on(rig.accepted, done.code);
+    rig.arbiters[i] = arbiter_after;
+    rig.accepted = counted_on(rig.accepted, done.code);
     Answer {
         code: done.code,
-        rig: next,
+        rig: rig,
         count: done.count,
     }
 }
