@@ -120,8 +120,8 @@ module _ (L : List Message) (place : ℕ) where
       (λ h. rw h (λ z. clash (eqb (M.effectCode n e rest) 0) z h))
 
   event-fits : (n : ℕ) (d : Desk) (ms : List Message) (e : Event) → Leaves (M.attempt d ms e) → Fits (M.eventAt n d ms e)
-  unfolding M.eventAt
-  event-fits n d ms e s = by-bool (M.sitesNamed (d .size) e) (λ h. rw h (judged-fits n d ms _ s)) (λ h. rw h (λ z. clash false z refl))
+  unfolding M.eventAt M.attempted
+  event-fits n d ms e s = judged-fits n d ms _ (one-leaves (not (M.sitesNamed (d .size) e)) _ _ refl s)
 
   module _ (t : Tables) (l : List Message) (n : ℕ) where
     -- the answer on another list, with L rewritten from the list that it leaves

@@ -12,10 +12,10 @@ use rig_reads::is_site;
 ghost use mathlib.Core.Path.{_≡_};
 ghost use Prim.Native.Nat.{_≤_, _<_};
 ghost use Rattle.rig.specs.Limits.{siteLimit, eventLimit};
-ghost use Rattle.model.specs.Event.{actor, sitesNamed, eventAt};
+ghost use Rattle.model.specs.Event.{actor, sitesNamed, attempted, eventAt};
 ghost use Rattle.event_desks.specs.Parts.{deskAt};
 ghost use Rattle.event_storing.specs.Leaves.{Leaves, messagesIn};
-ghost use Rattle.event_storing.specs.Outbox.{attempted, Sends};
+ghost use Rattle.event_storing.specs.Outbox.{Sends};
 ghost use Rattle.event_storing.specs.Needs.{SiteReady};
 ghost use Rattle.event_at_site.specs.Places.{placeOf, countedOn};
 

@@ -9,7 +9,7 @@ use Rattle.model.specs.Setup.{noRig}
 use Rattle.model.specs.State.{Stored}
 use Rattle.list_rows.specs.Rows.{zeroRow, ZeroPast}
 use Rattle.list_rows.specs.State.{stored, Lent}
-use Rattle.event_rows.specs.Steps.{InRun}
+use Rattle.model.specs.Run.{InRun}
 use Rattle.player_printing.specs.Printing.{Printed}
 use Rattle.player_text.specs.declared.Player.{Player}
 use Rattle.player_text.specs.declared.Said.{Said}

@@ -30,7 +30,7 @@ step-requires c κs = (sym (c .before .before .before .before .well-shaped .ensu
 
 returns-2 : tie.Need-returns-2
 unfolding tested
-returns-2 c = rw (sym (c .before .before .before .before .before .well-shaped .ensures) ∙ not-false _ (c .before .before .before .before .if1 .left)) (c .step .ensures .0 .answer)
+returns-2 c = rw (sym (c .before .before .before .before .before .well-shaped .ensures) ∙ not-false _ (c .before .before .before .before .if1 .left)) (c .step .ensures .0)
 
 pub event-spec : {M : Type 1} → statement M
 event-spec =
