@@ -2,17 +2,13 @@
 use Prim.Native.Nat.{ℕ, zero, suc, _<_}
 use mathlib.Core.Path.{_≡_, refl, sym, ap, _∙_}
 use mathlib.Core.List.{List, [], _∷_, _++_, map, map-append}
-use mathlib.Core.Option.{none, some}
 use native.Mathlib.Omega.{arith}
 use lib.ListN.{length, getD, take, drop, length-take}
 use lib.Seq.{getD-take}
-use Rattle.basics.specs.Helpers.{first, withoutFirst}
 use Rattle.rig.specs.declared.Desk.{Desk}
 use Rattle.rig.specs.declared.Event.the-variants.{Deliver}
-use Rattle.rig.specs.declared.Message.{Message}
-use Rattle.model.specs.Deliver.{between}
 use Rattle.model.specs.Event.{takenOff, attempt, blankMessage}
-use Rattle.list_rows.specs.Rows.{messageOf, without}
+use Rattle.list_rows.specs.Rows.{messageOf}
 use Rattle.list_search.specs.declared.Found.{Found}
 use Rattle.list_search.specs.declared.Found.the-variants.{At, Nowhere}
 use Rattle.list_search.specs.Places.{foundIn}

@@ -1,6 +1,6 @@
 -- What a well-shaped state gives an event at its site.
-use Prim.Native.Nat.{ℕ, zero, suc, _-_, _≤_}
-use mathlib.Core.Path.{_≡_, refl, sym, ap, _∙_}
+use Prim.Native.Nat.{ℕ, zero, suc, _≤_}
+use mathlib.Core.Path.{_≡_, refl, ap}
 use mathlib.Core.Bool.{true}
 use mathlib.Core.List.{List, [], _∷_, map}
 use mathlib.Core.Option.{some}
@@ -12,7 +12,7 @@ use Rattle.rig.specs.declared.Message.{Message}
 use Rattle.rig.specs.Limits.{siteLimit, eventLimit}
 use Rattle.model.specs.Tables.{cell}
 use Rattle.model.specs.Setup.{restingSite, freeArbiter}
-use Rattle.model.specs.State.{Tables, Stored, underWay, inRange, tables, deskOf}
+use Rattle.model.specs.State.{underWay, inRange, tables, deskOf}
 use Rattle.model.specs.Deliver.{between}
 use Rattle.model.specs.Shape.{wellShaped}
 use Rattle.model.proofs.Tables.{at-read}

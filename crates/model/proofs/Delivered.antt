@@ -1,18 +1,16 @@
 -- A delivery: the first message of a channel is the same one in the definitions and in the machine, and each kind comes to the same
 -- state of the whole rig.
-use Prim.Native.Nat.{ℕ, _≤_}
+use Prim.Native.Nat.{ℕ}
 use mathlib.Core.Path.{_≡_, refl, _∙_, ap}
-use mathlib.Core.Logic.{_≢_}
 use mathlib.Core.Bool.{true, _||_}
 use mathlib.Core.List.{List, [], _∷_, _++_, map}
 use mathlib.Core.Option.{some}
 use native.Mathlib.Omega.{arith}
 use lib.Dec.{eqb}
-use borrow.Author.Tests.{eqb-true, eqb-false, ne-eqb}
+use borrow.Author.Tests.{eqb-true, ne-eqb}
 use Rattle.basics.specs.Helpers.{first, withoutFirst}
 use Rattle.basics.proofs.Basics.{by-bool, clash, and-split}
 use Rattle.rig.specs.declared.Message.{Message}
-use Rattle.rig.specs.Messages.{REQUEST, REPLY, RELEASE, INQUIRE, FAIL, YIELD, TRANSFER}
 use Rattle.protocol.specs.Rig as R
 use Rattle.model.specs.State.{Tables, Stored, sizeOf, setsOf, hasMember, deskOf, withDesk}
 use Rattle.model.specs.Deliver.{between, delivered}

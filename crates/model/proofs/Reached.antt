@@ -2,7 +2,7 @@
 use Prim.Native.Nat.{ℕ, _+_, _-_, _≤_, _<_}
 use mathlib.Core.Path.{_≡_, refl, sym, _∙_, ap}
 use mathlib.Core.Logic.{_≢_}
-use mathlib.Core.Bool.{Bool, true, false, not, _&&_, _||_, cond}
+use mathlib.Core.Bool.{Bool, true, false, not, _||_, cond}
 use mathlib.Core.List.{List, [], _∷_, _++_, map}
 use mathlib.Core.Option.{Option, none, some}
 use native.Mathlib.Omega.{arith}
@@ -11,7 +11,7 @@ use lib.ListN.{length, replicate, length-append}
 use lib.Seq.{take-append-seam}
 use borrow.Author.Tests.{eqb-true, le-leb, leb-false, ltb-false}
 use Rattle.basics.specs.Helpers.{first, withoutFirst}
-use Rattle.basics.proofs.Basics.{by-bool, clash, and-split, or-none}
+use Rattle.basics.proofs.Basics.{by-bool, clash, or-none}
 use Rattle.basics.proofs.Lists.{All}
 use Rattle.rig.specs.declared.Desk.{Desk}
 use Rattle.rig.specs.declared.Message.{Message}
