@@ -24,9 +24,9 @@ use Rattle.model.proofs.Reached.{room}
 use Rattle.list_search.specs.declared.Found.{Found}
 use Rattle.list_search.specs.declared.Found.the-variants.{At, Nowhere}
 use Rattle.list_search.specs.Places.{placeFrom}
-use Rattle.list_rows.specs.Rows.{rowOf, messageOf}
+use Rattle.list_rows.specs.Rows.{rowOf, messageOf, zeroRows}
 use Rattle.list_lent.specs.First.{firstIn}
-use Rattle.engine_parts.specs.Parts.{senderOf, receiverOf, listCode, readOf, blankRows, judgedRows, placeFound, changedFrom}
+use Rattle.engine_parts.specs.Parts.{senderOf, receiverOf, listCode, readOf, judgedRows, placeFound, changedFrom}
 
 -- an answer, with another list in the state that it leaves
 abbrev pub relisted : List Message → M.Answer → M.Answer
@@ -39,8 +39,8 @@ rows-read (suc n) [] rest h = absurd (omega arith)
 rows-read (suc n) (m ∷ ms) rest h = ap (λ (r : List Message). m ∷ r) (rows-read n ms rest (omega arith))
 
 -- the rows read from the list say what its first n messages are
-pub read-rows : (L : List Message) (n : ℕ) → n ≤ length L → n ≤ messageLimit → take n (map messageOf (paste blankRows 0 (map rowOf L) n)) ≡ take n L
-read-rows L n h k = rows-read n L (drop (0 + n) blankRows) h
+pub read-rows : (L : List Message) (n : ℕ) → n ≤ length L → n ≤ messageLimit → take n (map messageOf (paste zeroRows 0 (map rowOf L) n)) ≡ take n L
+read-rows L n h k = rows-read n L (drop (0 + n) zeroRows) h
 
 module _ {A : Type 0} (test : A → Bool) where
   none-found : (k : ℕ) (xs : List A) → placeFrom k test xs ≡ Nowhere → first test xs ≡ none

@@ -9,9 +9,9 @@ use rig::Tables;
 ghost use mathlib.Core.Path.{_≡_};
 ghost use Prim.Native.Nat.{_≤_};
 ghost use Rattle.rig.specs.Limits.{messageLimit};
-ghost use Rattle.list_rows.specs.Rows.{ZeroPast};
+ghost use Rattle.list_rows.specs.Rows.{zeroRows, ZeroPast};
 ghost use Rattle.list_rows.specs.State.{before, after};
-ghost use Rattle.engine_parts.specs.Parts.{senderOf, receiverOf, listCode, readOf, blankRows, judgedRows, changedFrom};
+ghost use Rattle.engine_parts.specs.Parts.{senderOf, receiverOf, listCode, readOf, judgedRows, changedFrom};
 
 // The site that a delivery is from, 0 for an ask or a leave.
 pub fn sender(e: Event) -> u64
@@ -60,7 +60,7 @@ pub fn read_count(code: u64, count: usize) -> usize
 
 // A row for each message that may be under way, all of zeros.
 pub fn blank_rows() -> Rows
-    ensures { λ r. ⌜ r ≡ blankRows ⌝ }
+    ensures { λ r. ⌜ r ≡ zeroRows ⌝ }
 {
     [[0; Message::FIELDS]; Rig::MESSAGES]
 }

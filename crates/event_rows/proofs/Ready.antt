@@ -10,6 +10,7 @@ use Rattle.rig.specs.declared.Rig.{Rig}
 use Rattle.rig.specs.declared.Desk.{Desk}
 use Rattle.rig.specs.declared.Message.{Message}
 use Rattle.rig.specs.Limits.{siteLimit, eventLimit}
+use Rattle.rig.specs.Messages.{NamesSites}
 use Rattle.model.specs.Tables.{cell}
 use Rattle.model.specs.Setup.{restingSite, freeArbiter}
 use Rattle.model.specs.State.{underWay, inRange, tables, deskOf}
@@ -22,7 +23,7 @@ use Rattle.list_rows.specs.Rows.{messageOf, ZeroPast}
 use Rattle.list_rows.specs.State.{stored}
 use Rattle.event_desks.specs.Parts.{deskAt}
 use Rattle.event_storing.specs.Leaves.{messagesIn}
-use Rattle.event_storing.specs.Needs.{NumbersInRange, NamesSites, SiteReady}
+use Rattle.event_storing.specs.Needs.{NumbersInRange, SiteReady}
 use Rattle.event_at_site.specs.Places.{placeOf}
 
 -- what is under way, of a list in rows
@@ -56,7 +57,7 @@ module _ (g : Rig) (ts : List (List (List ℕ))) (k : ℕ) where
     names a b m e =
         let s = stored g ts rows n in
         let f = first-shaped (g .size) (g .sets) a b (underWay s) m (sh .messages) (rw (← under-way n rows) e) .0 in
-        record { sender = ends s sh m f .0; arbiter = about-arbiter s sh m f; heir = about-high s sh m f }
+        record { sender = ends s sh m f .0; arbiter = about-arbiter s sh m f; about = about-high s sh m f }
 
     pub ready : ZeroPast n rows → SiteReady (deskFrom g ts k (placeOf (g .size) k)) n rows
     ready z = record { size = sh .sets .high; numbers = numbers; few = sh .few; zeros = z; messages = names }

@@ -22,7 +22,8 @@ ghost use Rattle.list_rows.specs.State.{stored, before, after};
 ghost use Rattle.event_storing.specs.Outbox.{Sends};
 
 // An inner call: an event on a well-shaped state whose rows past the count are zeros, without a test of either. Both hold of the next
-// state of a run, so that a caller who alone has the state needs no tests. `out` is room for what is sent: no row of it is read.
+// state of a run, so that a caller who alone has the state needs no tests. `out` is room for what is sent: no row of it is read
+// before it is written.
 pub fn step(
     rig: Rig,
     tables: &mut Tables,
