@@ -6,7 +6,7 @@ use mathlib.Core.List.{List, [], _∷_, _++_, map, append-nil}
 use mathlib.Core.Option.{Option, none, some}
 use native.Mathlib.Omega.{arith}
 use lib.Dec.{eqb, leb, ltb}
-use lib.ListN.{length, take, drop, length-append, length-take, length-drop, length-replicate, take-append-drop}
+use lib.ListN.{length, take, drop, length-append, length-take, length-drop, take-append-drop}
 use lib.Seq.{paste, paste-zero, length-take-le, take-all, take-append-le, take-take, drop-length}
 use borrow.Author.Tests.{eqb-true, leb-true, ltb-true, eq-eqb, lt-leb, le-ltb}
 use Rattle.basics.specs.Helpers.{first, withoutFirst}
@@ -21,6 +21,7 @@ use Rattle.model.specs.Shape.{wellShaped}
 use Rattle.model.specs.Deliver.{between}
 use Rattle.model.specs.Event as M
 use Rattle.model.proofs.Reached.{room}
+use Rattle.model.proofs.Codes.{padded-long}
 use Rattle.list_search.specs.declared.Found.{Found}
 use Rattle.list_search.specs.declared.Found.the-variants.{At, Nowhere}
 use Rattle.list_search.specs.Places.{placeFrom}
@@ -81,10 +82,6 @@ rejoined L next place fits long e =
     let a : place + (length L - place) ≡ length L = omega arith in
     let b : length (drop place next) ≤ length L - place = rw length-drop (omega arith) in
     rw (a, drop-length, append-nil, take-all (length L - place) (drop place next) b, ← e, take-append-drop)
-
-padded-long : (ms : List Message) → length ms ≤ messageLimit → length (M.padded ms) ≡ messageLimit
-unfolding M.padded
-padded-long ms h = simp (length-append, length-replicate) (omega arith)
 
 padded-take : (place : ℕ) (ms : List Message) → place ≤ length ms → take place (M.padded ms) ≡ take place ms
 unfolding M.padded

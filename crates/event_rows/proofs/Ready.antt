@@ -1,11 +1,12 @@
 -- What a well-shaped state gives an event at its site.
-use Prim.Native.Nat.{ℕ, zero, suc, _≤_}
-use mathlib.Core.Path.{_≡_, refl, ap}
+use Prim.Native.Nat.{ℕ, _≤_}
+use mathlib.Core.Path.{_≡_, sym}
 use mathlib.Core.Bool.{true}
-use mathlib.Core.List.{List, [], _∷_, map}
+use mathlib.Core.List.{List, map}
 use mathlib.Core.Option.{some}
 use lib.ListN.{getD, take}
 use Rattle.basics.specs.Helpers.{first}
+use Rattle.basics.proofs.Lists.{take-map}
 use Rattle.rig.specs.declared.Rig.{Rig}
 use Rattle.rig.specs.declared.Desk.{Desk}
 use Rattle.rig.specs.declared.Message.{Message}
@@ -28,9 +29,7 @@ use Rattle.event_at_site.specs.Places.{placeOf}
 
 -- what is under way, of a list in rows
 pub under-way : (n : ℕ) (rows : List (List ℕ)) → messagesIn n rows ≡ take n (map messageOf rows)
-under-way zero rows = refl
-under-way (suc n) [] = refl
-under-way (suc n) (r ∷ rs) = ap (λ (ms : List Message). messageOf r ∷ ms) (under-way n rs)
+under-way n rows = sym (take-map messageOf n rows)
 
 -- the desk that an event at site k works on: its parts at an index of the rig
 abbrev pub deskFrom : Rig → List (List (List ℕ)) → ℕ → ℕ → Desk

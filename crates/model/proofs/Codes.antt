@@ -34,7 +34,7 @@ limit-low n clock grant sent rest =
     (λ b. rw (a, b) (omega arith))
     (λ b. rw (a, b) (omega arith)))
 
-padded-long : (ms : List Message) → length ms ≤ messageLimit → length (padded ms) ≡ messageLimit
+pub padded-long : (ms : List Message) → length ms ≤ messageLimit → length (padded ms) ≡ messageLimit
 unfolding padded
 padded-long ms few = rw (length-append, length-replicate) (omega arith)
 

@@ -23,7 +23,6 @@ use Rattle.rig.specs.Limits.{siteLimit, messageLimit, eventLimit}
 use Rattle.protocol.specs.System.{System}
 use Rattle.protocol.specs.Rig as R
 use Rattle.model.specs.Tables.{at}
-use Rattle.model.specs.Sets.{member}
 use Rattle.model.specs.State.{Tables, Stored, underWay, sizeOf, setsOf, inRange, modeOf, isResting, isInside, deskOf, withDesk, withAccepted}
 use Rattle.model.specs.Desk.{Effect}
 use Rattle.model.specs.Deliver.{between, delivered}
@@ -31,7 +30,7 @@ use Rattle.model.specs.Shape.{messageShaped, wellShaped}
 use Rattle.model.specs.Event.{actor, sitesNamed, Attempt, refused, possible, takenOff, attempt, attempted, numbersFit, limitCode, effectCode, blankMessage, padded, acceptedState, judged, eventAt, settled, played, tested, event}
 use Rattle.model.specs.Run.{run}
 use Rattle.model.proofs.Machine.{systemOf, sentOf, rigOf, Sized, DeskSized, desk-sized, sized-desk, rests-same, inside-same}
-use Rattle.model.proofs.Lawful.{before, told, systemFrom}
+use Rattle.model.proofs.Lawful.{systemFrom}
 use Rattle.model.proofs.Shaped.{Shaped, shaped, within, ends}
 use Rattle.model.proofs.AskLeave.{ask-same, leave-same}
 use Rattle.model.proofs.Delivered.{step-delivers, first-shaped, delivered-same}
@@ -57,7 +56,7 @@ pub record Reached (n : ℕ) (l : List ℕ) (s : Stored) : Type 0 where
   pub plain : AllPlain (underWay s)
 
 system-same : (t : Tables) (n : ℕ) (l : List ℕ) → sizeOf t ≡ n → t .rig .sets ≡ l → systemOf t ≡ systemFrom n l
-system-same t n l p q = λ i. record { size = p i; sets = λ k j. member (at 0 (q i) k) j; comesBefore = before; told = told }
+system-same t n l p q = λ i. systemFrom (p i) (q i)
 
 -- what a code of 0 says of the list and of the count of events
 pub room : (n clock grant : ℕ) (sent : List Message) (rest : ℕ) → limitCode n clock grant sent rest ≡ 0 → (rest + length sent ≤ messageLimit) × (n < eventLimit)
