@@ -16,7 +16,8 @@ ghost use lib.ListN.{length};
 ghost use Rattle.rig.specs.Limits.{SiteNumber};
 ghost use Rattle.rig.specs.Messages.{inquire, transfer};
 ghost use Rattle.model.specs.Arbiter.{heldBy, nextHeir, granted, grantedHead};
-ghost use Rattle.event_effects.specs.Effects.{CarriesOut, Appends};
+ghost use Rattle.list_rows.specs.Rows.{Appends};
+ghost use Rattle.event_effects.specs.Effects.{CarriesOut};
 ghost use Rattle.arbiter_grants.specs.Needs.{Room};
 
 // The permission is held by k, with grant number g; it asked with sequence number n.

@@ -13,7 +13,8 @@ use list_rows::append;
 use rig::Desk;
 ghost use Rattle.rig.specs.Limits.{SiteNumber};
 ghost use Rattle.model.specs.Arbiter.{headNamed, heirTakesOver};
-ghost use Rattle.event_effects.specs.Effects.{CarriesOut, Appends};
+ghost use Rattle.list_rows.specs.Rows.{Appends};
+ghost use Rattle.event_effects.specs.Effects.{CarriesOut};
 ghost use Rattle.arbiter_grants.specs.Needs.{Room};
 
 // If the queue isn't empty, a transfer that names the head goes to the holder, then an inquire if the head comes before it.

@@ -16,7 +16,8 @@ ghost use mathlib.Core.Path.{_≡_};
 ghost use Prim.Native.Nat.{_≤_};
 ghost use Rattle.rig.specs.Limits.{siteLimit, SiteNumber};
 ghost use Rattle.model.specs.Arbiter.{clockRaised, failFormer, inquireOrFail, answers, queuedUp, onRequest};
-ghost use Rattle.event_effects.specs.Effects.{CarriesOut, Appends};
+ghost use Rattle.list_rows.specs.Rows.{Appends};
+ghost use Rattle.event_effects.specs.Effects.{CarriesOut};
 ghost use Rattle.arbiter_grants.specs.Needs.{Room};
 
 // The site's clock becomes the larger of itself and n.

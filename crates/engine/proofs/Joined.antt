@@ -16,13 +16,13 @@ use Rattle.rig.specs.declared.Answer.{Answer}
 use Rattle.rig.specs.Limits.{messageLimit}
 use Rattle.model.specs.Event as M
 use Rattle.model.specs.State.{tables}
-use Rattle.list_rows.specs.Rows.{rowOf, messageOf, zeroRow, ZeroPast}
+use Rattle.list_rows.specs.Rows.{rowOf, messageOf, zeroRow, zeroRows, ZeroPast}
 use Rattle.list_rows.specs.State.{stored as in-rows}
 use Rattle.list_exchange.proofs.Zeros.{pasted-blank}
 use Rattle.list_lent.specs.First.{firstIn}
 use Rattle.event_sites.specs.Places.{senderOf, receiverOf}
 use Rattle.event_rows.specs.Tested.{testedWith}
-use Rattle.engine_parts.specs.Parts.{listCode, readOf, blankRows, changedFrom}
+use Rattle.engine_parts.specs.Parts.{listCode, readOf, changedFrom}
 use Rattle.engine.specs.Lent.{stored, answered}
 use Rattle.engine.proofs.Lent.{relisted, read-rows, from-fits, from-long, composed}
 
@@ -54,22 +54,22 @@ zeros zero m = let e : m - 0 ≡ m = omega arith in ap (λ (i : ℕ). replicate 
 zeros (suc n) zero = let e : 0 - suc n ≡ 0 = omega arith in ap (λ (i : ℕ). replicate i zeroRow) e
 zeros (suc n) (suc m) = let e : suc m - suc n ≡ m - n = omega arith in rw e (ap (λ (r : List (List ℕ)). zeroRow ∷ r) (zeros n m))
 
-blank-past : (n : ℕ) → ZeroPast n blankRows
-blank-past n = ap (λ (i : ℕ). take n blankRows ++ replicate (i - n) zeroRow) (length-replicate messageLimit zeroRow) ∙ zeros n messageLimit
+blank-past : (n : ℕ) → ZeroPast n zeroRows
+blank-past n = ap (λ (i : ℕ). take n zeroRows ++ replicate (i - n) zeroRow) (length-replicate messageLimit zeroRow) ∙ zeros n messageLimit
 
 -- past the count, the rows read from a list are zeros: it is the number of rows read, or no row is read
-rows-past : (n : ℕ) (ys : List Message) → ZeroPast n (paste blankRows 0 (map rowOf ys) (readOf (listCode n (length ys)) n))
+rows-past : (n : ℕ) (ys : List Message) → ZeroPast n (paste zeroRows 0 (map rowOf ys) (readOf (listCode n (length ys)) n))
 rows-past n ys =
     by-bool (eqb (listCode n (length ys)) 0)
     (λ a. let p = code-passes n (length ys) (eqb-true _ 0 a) in
     let l = length-replicate messageLimit zeroRow in
     let z : 0 + n ≡ n = omega arith in
     rw a
-    (subst (λ (i : ℕ). ZeroPast i (paste blankRows 0 (map rowOf ys) n)) z
-    (pasted-blank 0 blankRows (map rowOf ys) n (omega (arith, p .1)) (rw length-map (omega (arith, p .0, p .1))) (blank-past 0))))
+    (subst (λ (i : ℕ). ZeroPast i (paste zeroRows 0 (map rowOf ys) n)) z
+    (pasted-blank 0 zeroRows (map rowOf ys) n (omega (arith, p .1)) (rw length-map (omega (arith, p .0, p .1))) (blank-past 0))))
     (λ a. rw a (blank-past n))
 
-pub zero-past : (n : ℕ) (ys : List Message) (blank before : List (List ℕ)) → blank ≡ blankRows → before ≡ paste blank 0 (map rowOf ys) (readOf (listCode n (length ys)) n) → ZeroPast n before
+pub zero-past : (n : ℕ) (ys : List Message) (blank before : List (List ℕ)) → blank ≡ zeroRows → before ≡ paste blank 0 (map rowOf ys) (readOf (listCode n (length ys)) n) → ZeroPast n before
 zero-past n ys blank before p q = rw (q, p) (rows-past n ys)
 
 module _ (g : Rig) (ts : List (List (List ℕ))) (ys : List Message) (n : ℕ) (e : Event) (r : Answer) (ts′ : List (List (List ℕ))) (blank before after : List (List ℕ)) where
@@ -79,7 +79,7 @@ module _ (g : Rig) (ts : List (List (List ℕ))) (ys : List Message) (n : ℕ) (
   abbrev start : ℕ → ℕ
   start code = changedFrom code (firstIn (senderOf e) (receiverOf e) (take read ys)) n (length ys)
 
-  module _ (blank-is : blank ≡ blankRows) (before-is : before ≡ paste blank 0 (map rowOf ys) read)
+  module _ (blank-is : blank ≡ zeroRows) (before-is : before ≡ paste blank 0 (map rowOf ys) read)
       (said : M.answer (r .code) (in-rows (r .rig) ts′ after (r .count)) ≡ testedWith (listCode n (length ys)) (in-rows g ts before n) e) where
     same : length ys ≡ messageLimit → n ≤ messageLimit → take n (map messageOf before) ≡ take n ys
     same f k =

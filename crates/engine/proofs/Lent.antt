@@ -6,7 +6,7 @@ use mathlib.Core.List.{List, [], _∷_, _++_, map, append-nil}
 use mathlib.Core.Option.{Option, none, some}
 use native.Mathlib.Omega.{arith}
 use lib.Dec.{eqb, leb, ltb}
-use lib.ListN.{length, take, drop, length-append, length-take, length-drop, length-replicate, take-append-drop}
+use lib.ListN.{length, take, drop, length-append, length-take, length-drop, take-append-drop}
 use lib.Seq.{paste, paste-zero, length-take-le, take-all, take-append-le, take-take, drop-length}
 use borrow.Author.Tests.{eqb-true, leb-true, ltb-true, eq-eqb, lt-leb, le-ltb}
 use Rattle.basics.specs.Helpers.{first, withoutFirst}
@@ -21,14 +21,15 @@ use Rattle.model.specs.Shape.{wellShaped}
 use Rattle.model.specs.Deliver.{between}
 use Rattle.model.specs.Event as M
 use Rattle.model.proofs.Reached.{room}
+use Rattle.model.proofs.Codes.{padded-long}
 use Rattle.list_search.specs.declared.Found.{Found}
 use Rattle.list_search.specs.declared.Found.the-variants.{At, Nowhere}
 use Rattle.list_search.specs.Places.{placeFrom}
-use Rattle.list_rows.specs.Rows.{rowOf, messageOf}
+use Rattle.list_rows.specs.Rows.{rowOf, messageOf, zeroRows}
 use Rattle.list_lent.specs.First.{firstIn}
 use Rattle.event_sites.specs.Places.{senderOf, receiverOf}
 use Rattle.event_rows.specs.Tested.{testedWith}
-use Rattle.engine_parts.specs.Parts.{listCode, readOf, blankRows, placeFound, changedFrom}
+use Rattle.engine_parts.specs.Parts.{listCode, readOf, placeFound, changedFrom}
 
 -- an answer, with another list in the state that it leaves
 abbrev pub relisted : List Message → M.Answer → M.Answer
@@ -41,8 +42,8 @@ rows-read (suc n) [] rest h = absurd (omega arith)
 rows-read (suc n) (m ∷ ms) rest h = ap (λ (r : List Message). m ∷ r) (rows-read n ms rest (omega arith))
 
 -- the rows read from the list say what its first n messages are
-pub read-rows : (L : List Message) (n : ℕ) → n ≤ length L → n ≤ messageLimit → take n (map messageOf (paste blankRows 0 (map rowOf L) n)) ≡ take n L
-read-rows L n h k = rows-read n L (drop (0 + n) blankRows) h
+pub read-rows : (L : List Message) (n : ℕ) → n ≤ length L → n ≤ messageLimit → take n (map messageOf (paste zeroRows 0 (map rowOf L) n)) ≡ take n L
+read-rows L n h k = rows-read n L (drop (0 + n) zeroRows) h
 
 module _ {A : Type 0} (test : A → Bool) where
   none-found : (k : ℕ) (xs : List A) → placeFrom k test xs ≡ Nowhere → first test xs ≡ none
@@ -84,10 +85,6 @@ rejoined L next place fits long e =
     let b : length (drop place next) ≤ length L - place = rw length-drop (omega arith) in
     rw (a, drop-length, append-nil, take-all (length L - place) (drop place next) b, ← e, take-append-drop)
 
-padded-long : (ms : List Message) → length ms ≤ messageLimit → length (M.padded ms) ≡ messageLimit
-unfolding M.padded
-padded-long ms h = simp (length-append, length-replicate) (omega arith)
-
 padded-take : (place : ℕ) (ms : List Message) → place ≤ length ms → take place (M.padded ms) ≡ take place ms
 unfolding M.padded
 padded-take place ms h = take-append-le place ms _ h
@@ -122,8 +119,8 @@ module _ (L : List Message) (place : ℕ) where
       (λ h. rw h (λ z. clash (eqb (M.effectCode n e rest) 0) z h))
 
   event-fits : (n : ℕ) (d : Desk) (ms : List Message) (e : Event) → Leaves (M.attempt d ms e) → Fits (M.eventAt n d ms e)
-  unfolding M.eventAt
-  event-fits n d ms e s = by-bool (M.sitesNamed (d .size) e) (λ h. rw h (judged-fits n d ms _ s)) (λ h. rw h (λ z. clash false z refl))
+  unfolding M.eventAt M.attempted
+  event-fits n d ms e s = judged-fits n d ms _ (one-leaves (not (M.sitesNamed (d .size) e)) _ _ refl s)
 
   module _ (t : Tables) (l : List Message) (n : ℕ) where
     -- the answer on another list, with L rewritten from the list that it leaves

@@ -4,7 +4,8 @@ use list_search::Found;
 use rig::Message;
 use rig::Rig;
 ghost use mathlib.Core.Path.{_≡_};
-ghost use Rattle.engine_parts.specs.Parts.{listCode, readOf, blankRows, changedFrom};
+ghost use Rattle.list_rows.specs.Rows.{zeroRows};
+ghost use Rattle.engine_parts.specs.Parts.{listCode, readOf, changedFrom};
 
 // The code that the list's length or its count gets: 13, 10, or 0 where both pass.
 pub fn list_code(count: usize, len: usize) -> u64
@@ -31,7 +32,7 @@ pub fn read_count(code: u64, count: usize) -> usize
 
 // A row for each message that may be under way, all of zeros.
 pub fn blank_rows() -> Rows
-    ensures { λ r. ⌜ r ≡ blankRows ⌝ }
+    ensures { λ r. ⌜ r ≡ zeroRows ⌝ }
 {
     [[0; Message::FIELDS]; Rig::MESSAGES]
 }

@@ -6,16 +6,15 @@ use mathlib.Core.List.{List}
 use Rattle.rig.specs.declared.Desk.{Desk}
 use Rattle.rig.specs.declared.Event.{Event}
 use Rattle.rig.specs.declared.Message.{Message}
-use Rattle.model.specs.Event.{sitesNamed, refused, outcome, attempt, judged, eventAt}
-use Rattle.event_storing.specs.Outbox.{attempted}
+use Rattle.model.specs.Event.{sitesNamed, refused, outcome, attempt, attempted, judged, eventAt}
 
 module _ (accepted : ℕ) (d : Desk) (ms : List Message) (e : Event) where
   pub unnamed : sitesNamed (d .size) e ≡ false → eventAt accepted d ms e ≡ outcome 4 d ms
-  unfolding eventAt
+  unfolding eventAt attempted judged
   unnamed h = rw h
 
   pub named : sitesNamed (d .size) e ≡ true → eventAt accepted d ms e ≡ judged accepted d ms (attempt d ms e)
-  unfolding eventAt
+  unfolding eventAt attempted
   named h = rw h
 
 module _ (d : Desk) (ms : List Message) (e : Event) where

@@ -9,10 +9,10 @@ use rig::Arbiter;
 use rig::Event;
 use rig::Site;
 use rig::Tables;
-ghost use Rattle.model.specs.Event.{actor, eventAt};
+ghost use Rattle.model.specs.Event.{actor, attempted, eventAt};
 ghost use Rattle.event_desks.specs.Parts.{deskAt};
 ghost use Rattle.event_storing.specs.Leaves.{Leaves, messagesIn};
-ghost use Rattle.event_storing.specs.Outbox.{attempted, Sends};
+ghost use Rattle.event_storing.specs.Outbox.{Sends};
 ghost use Rattle.event_storing.specs.Needs.{SiteReady};
 
 // An inner call: one event at its site, of which these are the request set, the site and the arbiter.

@@ -5,6 +5,7 @@ use mathlib.Core.List.{List, [], _∷_, _++_, map, map-append}
 use native.Mathlib.Omega.{arith}
 use lib.ListN.{length, getD, take, drop, length-take}
 use lib.Seq.{getD-take}
+use Rattle.basics.proofs.Lists.{take-map}
 use Rattle.rig.specs.declared.Desk.{Desk}
 use Rattle.rig.specs.declared.Event.the-variants.{Deliver}
 use Rattle.model.specs.Event.{takenOff, attempt, blankMessage}
@@ -21,11 +22,6 @@ by-found (At i) x y = x i refl
 by-found Nowhere x y = y refl
 
 module _ {A B : Type 0} (f : A → B) where
-  map-take : (n : ℕ) (xs : List A) → map f (take n xs) ≡ take n (map f xs)
-  map-take zero xs = refl
-  map-take (suc n) [] = refl
-  map-take (suc n) (x ∷ xs) = ap (λ (ys : List B). f x ∷ ys) (map-take n xs)
-
   map-drop : (n : ℕ) (xs : List A) → map f (drop n xs) ≡ drop n (map f xs)
   map-drop zero xs = refl
   map-drop (suc n) [] = refl
@@ -39,7 +35,7 @@ module _ {A B : Type 0} (f : A → B) where
 -- the message at a place, and the others
 module _ (n : ℕ) (rows : List (List ℕ)) (place : ℕ) where
   pub others-at : take place (messagesIn n rows) ++ drop (suc place) (messagesIn n rows) ≡ staying n place rows
-  others-at = sym (map-append messageOf (take place (take n rows)) (drop (suc place) (take n rows)) ∙ rw (map-take messageOf place (take n rows), map-drop messageOf (suc place) (take n rows)))
+  others-at = sym (map-append messageOf (take place (take n rows)) (drop (suc place) (take n rows)) ∙ rw (← take-map messageOf place (take n rows), map-drop messageOf (suc place) (take n rows)))
 
 module _ (a b n : ℕ) (rows : List (List ℕ)) (i : ℕ) (found : foundIn a b (take n rows) ≡ At i) where
   pub message-at : getD (messagesIn n rows) i blankMessage ≡ messageOf (getD rows i [])

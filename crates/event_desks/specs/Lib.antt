@@ -1,2 +1,2 @@
--- A site's part of what a call is lent.
+-- One site's desk and its rows.
 pub mod Parts

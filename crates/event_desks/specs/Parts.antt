@@ -35,6 +35,6 @@ withRows t k d = record {
   queued = put (t .queued) k (d .queued);
 }
 
--- so they are left, whatever rig they belong to
+-- the tables ts′ are ts with the rows of site k those of d; the rig beside them is of no matter
 abbrev pub RowsStored : ℕ → Desk → List (List (List ℕ)) → List (List (List ℕ)) → Type 0
 RowsStored k d ts ts′ = (g : Rig) → tables g ts′ ≡ withRows (tables g ts) k d

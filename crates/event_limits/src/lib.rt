@@ -1,4 +1,4 @@
-// Whether an event keeps to the limits of a rig's numbers.
+// Whether an event passes a limit of a rig's numbers.
 use list_rows::Row;
 use list_rows::message;
 use rig::Rig;
@@ -30,7 +30,7 @@ fn all_numbers(sent: &[Row], n: usize) -> bool
 
 // Whether an event is turned down with 9: 1,000,000 events were accepted before it, or a number passes 2,000,000. The numbers are the
 // clock and the grant number of its site after it, and those of the first n messages that it sends.
-pub fn passes_limits(accepted: u64, clock: u64, grant: u64, sent: &[Row], n: usize) -> bool
+pub fn over_limits(accepted: u64, clock: u64, grant: u64, sent: &[Row], n: usize) -> bool
     ensures { λ r. ⌜ r ≡ leb eventLimit accepted || not (numbersFit clock grant (map messageOf (take n (now (sent .entry))))) ⌝ }
 {
     if accepted >= Rig::EVENTS {

@@ -1,15 +1,17 @@
 -- What a well-shaped state gives an event at its site.
-use Prim.Native.Nat.{ℕ, zero, suc, _≤_}
-use mathlib.Core.Path.{_≡_, refl, ap}
+use Prim.Native.Nat.{ℕ, _≤_}
+use mathlib.Core.Path.{_≡_, sym}
 use mathlib.Core.Bool.{true}
-use mathlib.Core.List.{List, [], _∷_, map}
+use mathlib.Core.List.{List, map}
 use mathlib.Core.Option.{some}
 use lib.ListN.{getD, take}
 use Rattle.basics.specs.Helpers.{first}
+use Rattle.basics.proofs.Lists.{take-map}
 use Rattle.rig.specs.declared.Rig.{Rig}
 use Rattle.rig.specs.declared.Desk.{Desk}
 use Rattle.rig.specs.declared.Message.{Message}
 use Rattle.rig.specs.Limits.{siteLimit, eventLimit}
+use Rattle.rig.specs.Messages.{NamesSites}
 use Rattle.model.specs.Tables.{cell}
 use Rattle.model.specs.Setup.{restingSite, freeArbiter}
 use Rattle.model.specs.State.{underWay, inRange, tables, deskOf}
@@ -22,14 +24,12 @@ use Rattle.list_rows.specs.Rows.{messageOf, ZeroPast}
 use Rattle.list_rows.specs.State.{stored}
 use Rattle.event_desks.specs.Parts.{deskAt}
 use Rattle.event_storing.specs.Leaves.{messagesIn}
-use Rattle.event_storing.specs.Needs.{NumbersInRange, NamesSites, SiteReady}
+use Rattle.event_storing.specs.Needs.{NumbersInRange, SiteReady}
 use Rattle.event_sites.specs.Places.{placeOf}
 
 -- what is under way, of a list in rows
 pub under-way : (n : ℕ) (rows : List (List ℕ)) → messagesIn n rows ≡ take n (map messageOf rows)
-under-way zero rows = refl
-under-way (suc n) [] = refl
-under-way (suc n) (r ∷ rs) = ap (λ (ms : List Message). messageOf r ∷ ms) (under-way n rs)
+under-way n rows = sym (take-map messageOf n rows)
 
 -- the desk that an event at site k works on: its parts at an index of the rig
 abbrev pub deskFrom : Rig → List (List (List ℕ)) → ℕ → ℕ → Desk
@@ -56,7 +56,7 @@ module _ (g : Rig) (ts : List (List (List ℕ))) (k : ℕ) where
     names a b m e =
         let s = stored g ts rows n in
         let f = first-shaped (g .size) (g .sets) a b (underWay s) m (sh .messages) (rw (← under-way n rows) e) .0 in
-        record { sender = ends s sh m f .0; arbiter = about-arbiter s sh m f; heir = about-high s sh m f }
+        record { sender = ends s sh m f .0; arbiter = about-arbiter s sh m f; about = about-high s sh m f }
 
     pub ready : ZeroPast n rows → SiteReady (deskFrom g ts k (placeOf (g .size) k)) n rows
     ready z = record { size = sh .sets .high; numbers = numbers; few = sh .few; zeros = z; messages = names }

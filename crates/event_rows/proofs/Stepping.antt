@@ -1,35 +1,30 @@
 -- The rig with an event's outcome stored at its site is the state that the event leaves.
 use Prim.Native.Nat.{ℕ, _+_, _-_}
-use mathlib.Core.Path.{_≡_, refl, sym, ap, subst, _∙_}
+use mathlib.Core.Path.{_≡_, refl, sym, ap, _∙_}
 use mathlib.Core.Bool.{true, false}
 use mathlib.Core.List.{List, [], map}
 use lib.Dec.{eqb}
 use lib.ListN.{getD, set}
 use lib.Seq.{set-getD}
-use borrow.Author.Tests.{eq-eqb}
 use Rattle.basics.proofs.Basics.{by-bool, clash, and-second}
 use Rattle.rig.specs.declared.Rig.{Rig}
 use Rattle.rig.specs.declared.Desk.{Desk}
 use Rattle.rig.specs.declared.Event.{Event}
 use Rattle.rig.specs.declared.Event.the-variants.{Ask, Leave, Deliver}
 use Rattle.rig.specs.declared.Message.{Message}
-use Rattle.rig.specs.Limits.{HELD, HEIR, INQUIRED, QUEUED, messageLimit}
+use Rattle.rig.specs.Limits.{HELD, HEIR, INQUIRED, QUEUED}
 use Rattle.model.specs.Tables.{put}
 use Rattle.model.specs.Setup.{restingSite, freeArbiter}
-use Rattle.model.specs.State.{Stored, underWay, inRange, tables, withDesk, withAccepted, deskOf}
-use Rattle.model.specs.Event.{actor, sitesNamed, Attempt, refused, possible, attempt, effectCode, Outcome, judged, eventAt, Answer, answer, acceptedState, settled, played, tested, event}
+use Rattle.model.specs.State.{underWay, inRange, tables, withDesk, withAccepted, deskOf}
+use Rattle.model.specs.Event.{actor, sitesNamed, Attempt, refused, possible, attempted, effectCode, Outcome, judged, eventAt, Answer, acceptedState, settled, attemptOn, played}
 use Rattle.model.proofs.Tables.{put-write, put-self}
 use Rattle.model.proofs.Shaped.{within}
-use Rattle.model.proofs.OfRun.{next-of-run, run-shaped}
-use Rattle.model.proofs.Codes.{event-long}
 use Rattle.list_rows.specs.Rows.{messageOf}
 use Rattle.list_rows.specs.State.{stored}
 use Rattle.event_desks.specs.Parts.{withRows}
 use Rattle.event_storing.specs.declared.Done.{Done}
 use Rattle.event_storing.specs.Leaves.{Left, messagesIn}
 use Rattle.event_sites.specs.Places.{placeOf, countedOn}
-use Rattle.event_storing.specs.Outbox.{attempted}
-use Rattle.event_rows.specs.Steps.{InRun, Steps, attemptOn}
 use Rattle.event_rows.proofs.Ready.{under-way, deskFrom, desk-of}
 
 -- A refusal leaves the desk as it came.
@@ -41,7 +36,7 @@ module _ (n : ℕ) (d : Desk) (ms : List Message) where
 
   kept : (e : Event) → eqb (eventAt n d ms e .code) 0 ≡ false → eventAt n d ms e .desk ≡ d
   unfolding eventAt
-  kept e h = by-bool (sitesNamed (d .size) e) (λ b. rw b (judged-kept (attempt d ms e) (rw b at h))) (λ b. rw b)
+  kept e h = judged-kept (attempted d ms e) h
 
 -- a site that is none of 1 to N is not named
 none-named : (n : ℕ) (e : Event) → inRange n (actor e) ≡ false → sitesNamed n e ≡ false
@@ -74,7 +69,7 @@ module _ (g : Rig) (ts ts′ : List (List (List ℕ))) (rows rows′ : List (Lis
   named-same h = rw (desk-of g ts k h, under-way n rows)
 
   unnamed-code : inRange (g .size) k ≡ false → (result .code ≡ 4) × (o .code ≡ 4)
-  unfolding eventAt deskOf
+  unfolding eventAt attempted judged deskOf
   unnamed-code h = let z = none-named (g .size) e h in (rw z, rw z)
 
   code-same : result .code ≡ o .code
@@ -144,13 +139,3 @@ module _ (g : Rig) (ts ts′ : List (List (List ℕ))) (rows rows′ : List (Lis
     pub stepped-at : (j m : ℕ) → j ≡ i → m ≡ countedOn (g .accepted) (r .code)
         → _≡_ {A = Answer} (record { code = r .code; next = stored (record { size = g .size; sets = g .sets; sites = set (g .sites) j (r .site); arbiters = set (g .arbiters) j (r .arbiter); accepted = m }) ts′ rows′ (r .count) }) (played (stored g ts rows n) e)
     stepped-at j m p q = rw (p, q) stepped
-
--- the next state of a run on a list of 1,024 entries
-again : (s : Stored) (e : Event) (a : Answer) → a ≡ played s e → InRun s → InRun (a .next)
-unfolding event tested
-again s e a q r =
-    let same : event s e ≡ a = rw (eq-eqb _ messageLimit (r .long), run-shaped (r .run)) (sym q) in
-    subst (λ (x : Answer). InRun (x .next)) same (record { run = next-of-run (r .run) e; long = event-long s e (r .long) })
-
-pub steps : (s : Stored) (e : Event) (a : Answer) → a ≡ played s e → Steps s e a
-steps s e a q = record { answer = q; again = again s e a q }

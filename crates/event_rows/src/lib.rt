@@ -16,14 +16,15 @@ ghost use mathlib.Core.Bool.{true};
 ghost use Prim.Native.Nat.{_≤_};
 ghost use Rattle.rig.specs.Limits.{messageLimit};
 ghost use Rattle.model.specs.Shape.{wellShaped};
+ghost use Rattle.model.specs.Event.{attemptOn, played};
 ghost use Rattle.list_rows.specs.Rows.{ZeroPast};
 ghost use Rattle.list_rows.specs.State.{stored, before, after};
 ghost use Rattle.event_storing.specs.Outbox.{Sends};
 ghost use Rattle.event_rows.specs.Tested.{testedWith};
-ghost use Rattle.event_rows.specs.Steps.{Steps, attemptOn};
 
 // An inner call: an event on a well-shaped state whose rows past the count are zeros, without a test of either. Both hold of the next
-// state of a run, so that a caller who alone has the state needs no tests. `out` is room for what is sent: no row of it is read.
+// state of a run, so that a caller who alone has the state needs no tests. `out` is room for what is sent: no row of it is read
+// before it is written.
 pub fn step(
     mut rig: Rig,
     tables: &mut Tables,
@@ -33,7 +34,7 @@ pub fn step(
     e: Event,
 ) -> Answer
     requires { ⌜ (wellShaped (stored rig (now tables) (now list) count) ≡ true) × ZeroPast count (now list) ⌝ }
-    ensures { λ r. ⌜ Steps (before rig tables list count) e (after r tables list) × ZeroPast (r .count) (now (list .exit))
+    ensures { λ r. ⌜ (after r tables list ≡ played (before rig tables list count) e) × ZeroPast (r .count) (now (list .exit))
         × Sends (attemptOn (before rig tables list count) e) out ⌝ }
 {
     let i = place_of(rig.size, actor(e));

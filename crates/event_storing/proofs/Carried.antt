@@ -23,21 +23,21 @@ use Rattle.event_storing.specs.Needs.{SiteReady}
 
 module _ {e : Effect} {rows after : List (List ℕ)} {a : Acted} (d : CarriesOut e 0 rows after a) where
   pub carried-effect : effectOf a after ≡ e
-  carried-effect = λ i. record { desk = d .desk i; sent = (ap (λ (r : List (List ℕ)). map messageOf r) (d .sent) ∙ messages-of-rows (e .sent)) i }
+  carried-effect = λ i. record { desk = d .desk i; sent = (ap (λ (r : List (List ℕ)). map messageOf r) (d .appends .sent) ∙ messages-of-rows (e .sent)) i }
 
   pub carried-fits : a .count ≤ length after
   carried-fits =
-      let l : length (take (a .count) after) ≡ length (e .sent) = rw (d .sent) (length-map (e .sent) rowOf) in
+      let l : length (take (a .count) after) ≡ length (e .sent) = rw (d .appends .sent) (length-map (e .sent) rowOf) in
       let m = length-take (a .count) after in
-      let n = d .count in
+      let n = d .appends .count in
       omega arith
 
   pub carried-outbox : (rest : List Message) → after ≡ outboxAfter (possible e rest) rows
   unfolding outboxAfter
   carried-outbox rest =
-      let n = d .count in
+      let n = d .appends .count in
       let m : a .count ≡ length (e .sent) = omega arith in
-      sym (take-append-drop (a .count) after) ∙ rw (d .sent, d .rest, m)
+      sym (take-append-drop (a .count) after) ∙ rw (d .appends .sent, d .appends .rest, m)
 
 -- where none is taken off, all stay
 pub all-stay : (n : ℕ) (rows : List (List ℕ)) → staying n n rows ≡ messagesIn n rows

@@ -1,10 +1,10 @@
 -- A call that leaves what came, and one that leaves an effect within the limits.
-use Prim.Native.Nat.{ℕ, _+_, _≤_, _<_}
+use Prim.Native.Nat.{ℕ, _+_, _≤_}
 use mathlib.Core.Path.{_≡_, refl, sym, ap, _∙_}
 use mathlib.Core.Bool.{Bool, true, false, not, _||_}
 use mathlib.Core.List.{List, [], _++_, map, map-append}
 use native.Mathlib.Omega.{arith}
-use lib.Dec.{eqb, leb, ltb}
+use lib.Dec.{eqb, leb}
 use lib.ListN.{length, take, getD, length-map, length-append}
 use lib.Seq.{length-take-le}
 use borrow.Author.Tests.{lt-ltb, le-ltb, leb-true, leb-false}
@@ -14,8 +14,6 @@ use Rattle.rig.specs.declared.Arbiter.{Arbiter}
 use Rattle.rig.specs.declared.Desk.{Desk}
 use Rattle.rig.specs.declared.Message.{Message}
 use Rattle.rig.specs.Limits.{HELD, HEIR, INQUIRED, QUEUED, messageLimit, eventLimit}
-use Rattle.model.specs.Tables.{at}
-use Rattle.model.specs.Desk.{Effect}
 use Rattle.model.specs.Event.{numbersFit, limitCode, possible, Outcome, outcome, judged, padded}
 use Rattle.model.proofs.Tables.{put-self}
 use Rattle.list_rows.specs.Rows.{messageOf, ZeroPast, without}
@@ -23,7 +21,6 @@ use Rattle.list_rows.proofs.Rows.{cleared-padded}
 use Rattle.list_exchange.specs.Exchange.{Exchanged}
 use Rattle.event_effects.specs.declared.Acted.{Acted}
 use Rattle.event_desks.specs.Parts.{deskAt, RowsStored}
-use Rattle.event_storing.specs.declared.Done.{Done}
 use Rattle.event_storing.specs.Leaves.{refused, Left, messagesIn, effectOf, staying}
 
 module _ (ts ts′ : List (List (List ℕ))) (list list′ : List (List ℕ)) (k n : ℕ) where

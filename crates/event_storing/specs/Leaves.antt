@@ -18,7 +18,7 @@ use Rattle.event_effects.specs.declared.Acted.{Acted}
 use Rattle.event_desks.specs.Parts.{RowsStored}
 use Rattle.event_storing.specs.declared.Done.{Done}
 
--- "Nothing of the state or a lent buffer changes then": the code, and what came
+-- the answer of a refusal: the code, and the site, the arbiter and the count as they came
 abbrev pub refused : ℕ → Site → Arbiter → ℕ → Done
 refused code s a n = record { code = code; site = s; arbiter = a; count = n }
 
@@ -45,7 +45,7 @@ messagesIn n rows = map messageOf (take n rows)
 abbrev pub effectOf : Acted → List (List ℕ) → Effect
 effectOf a out = effect (a .desk) (messagesIn (a .count) out)
 
--- the messages that stay under way: of the first n, all but the one at a place
+-- the messages that stay under way: of the first n, all but the one at a place; all where the place is n
 abbrev pub staying : ℕ → ℕ → List (List ℕ) → List Message
 staying n place rows = map messageOf (without place (take n rows))
 

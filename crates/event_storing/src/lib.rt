@@ -1,7 +1,7 @@
 // What an event does at its site, once its rule has worked on the desk: the limits are judged, and the rows and the list are stored.
 use event_desks::store_rows;
 use event_effects::Acted;
-use event_limits::passes_limits;
+use event_limits::over_limits;
 use list_exchange::exchange;
 use list_exchange::has_room;
 use list_rows::Row;
@@ -58,7 +58,7 @@ pub fn conclude(
     ensures { λ r. ⌜ ((n set : ℕ) → Leaves (concluded accepted (deskAt n s set site arbiter (now (tables .entry))) list count place a (now (out .entry))) s count tables list r) ⌝ }
 {
     let d = a.desk;
-    if passes_limits(accepted, d.site.clock, d.arbiter.grant, out, a.count) {
+    if over_limits(accepted, d.site.clock, d.arbiter.grant, out, a.count) {
         return Done::refused(9, site, arbiter, count);
     }
     if !has_room(list, count, place, a.count) {

@@ -18,7 +18,6 @@ ghost use Prim.Native.Nat.{_≤_};
 ghost use lib.ListN.{length};
 ghost use Rattle.rig.specs.Limits.{siteLimit, sentLimit};
 ghost use Rattle.model.specs.State.{inRange};
-ghost use Rattle.model.specs.Event.{attempt, judged};
 ghost use Rattle.event_effects.specs.Effects.{CarriesOut};
 ghost use Rattle.event_desks.specs.Parts.{deskAt};
 ghost use Rattle.event_storing.specs.Leaves.{Leaves, messagesIn};

@@ -10,8 +10,7 @@ ghost use mathlib.Core.List.{map};
 ghost use Prim.Native.Nat.{_<_, _≤_, _-_};
 ghost use lib.ListN.{length, drop, getD, set};
 ghost use lib.Seq.{paste};
-ghost use Rattle.list_rows.specs.Rows.{rowOf, messageOf};
-ghost use Rattle.list_rows.specs.Rows.{zeroRow};
+ghost use Rattle.list_rows.specs.Rows.{rowOf, messageOf, zeroRow};
 
 // Row i becomes a message's.
 fn put_row(rows: &mut [Row], i: usize, m: Message)

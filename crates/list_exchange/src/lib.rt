@@ -3,7 +3,6 @@ use list_rows::Row;
 use list_rows::Rows;
 use rig::Message;
 ghost use mathlib.Core.Path.{_≡_};
-ghost use mathlib.Core.List.{_++_};
 ghost use Prim.Native.Nat.{suc, _<_, _≤_, _+_, _-_};
 ghost use lib.Dec.{leb};
 ghost use lib.ListN.{length, take, drop};

@@ -13,7 +13,7 @@ use Rattle.list_rows.specs.Rows.{messageOf}
 abbrev pub stored : Rig → List (List (List ℕ)) → List (List ℕ) → ℕ → Stored
 stored g ts rows n = record { tables = tables g ts; list = map messageOf rows; count = n }
 
--- what a call is lent
+-- what a call is lent, before it (`entry`) and after it (`exit`)
 abbrev pub Lent : Type 0 → Type 0
 Lent A = Both (RefT A) (RefT A)
 

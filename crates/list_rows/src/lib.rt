@@ -2,10 +2,10 @@
 use rig::Message;
 use rig::Rig;
 ghost use mathlib.Core.Path.{_≡_};
-ghost use mathlib.Core.List.{[], _∷_, _++_};
-ghost use Prim.Native.Nat.{_<_, _+_};
-ghost use lib.ListN.{length, take, drop};
-ghost use Rattle.list_rows.specs.Rows.{rowOf, messageOf};
+ghost use mathlib.Core.List.{[], _∷_};
+ghost use Prim.Native.Nat.{_<_};
+ghost use lib.ListN.{length};
+ghost use Rattle.list_rows.specs.Rows.{rowOf, messageOf, Appends};
 
 pub type Row = [u64; Message::FIELDS];
 
@@ -36,7 +36,7 @@ pub fn message(r: Row) -> Message
 // An inner call: one message more, behind the first `count`.
 pub fn append(list: &mut [Row], count: usize, m: Message) -> usize
     requires { ⌜ count < length (now list) ⌝ }
-    ensures { λ r. ⌜ (r ≡ count + 1) × (take r (now (list .exit)) ≡ take count (now (list .entry)) ++ (rowOf m ∷ [])) × (drop r (now (list .exit)) ≡ drop r (now (list .entry))) ⌝ }
+    ensures { λ r. ⌜ Appends (m ∷ []) count (now (list .entry)) (now (list .exit)) r ⌝ }
 {
     list[count] = row(m);
     count + 1

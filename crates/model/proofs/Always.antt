@@ -32,7 +32,7 @@ use Rattle.model.specs.Setup.{setupCode, keptSets, restingSite, freeArbi
 use Rattle.model.specs.State.{Tables, Stored, underWay, seqIn, sizeOf, setsOf, inRange, hasMember, siteOf, modeOf, arbiterOf, heldOf, heirOf, inquiredOf, queuedOf, deskOf, withDesk}
 use Rattle.model.specs.Shape.{isNumber, isGiven, setShaped, modeShaped, siteBlank, siteShaped, holderShaped, arbiterShaped, placeShaped, rigShaped, entryShaped, ownShaped, heirShaped, queuedShaped, everywhere, numberShaped, plainShaped, releaseShaped, aboutShaped, messageShaped, messagesShaped, tablesShaped, wellShaped}
 use Rattle.model.specs.Desk.{Effect}
-use Rattle.model.specs.Event.{actor, sitesNamed, Attempt, refused, possible, numbersUpTo, numbersFit, limitCode, effectCode, judged, eventAt, settled, played, tested, event}
+use Rattle.model.specs.Event.{actor, Attempt, refused, possible, numbersUpTo, numbersFit, limitCode, effectCode, judged, eventAt, settled, played, tested, event}
 use Rattle.model.specs.Arbiter.{fromHolder, isEarly}
 use Rattle.model.specs.Site.{takes}
 use Rattle.model.specs.Run.{fresh, run, Always}
@@ -42,7 +42,7 @@ use Rattle.model.proofs.Machine.{modeNumber, sentOf, rigOf, rests-same,
 use Rattle.model.proofs.Lawful.{told-below, systemFrom, lawful, kept-past, kept-accepted}
 use Rattle.model.proofs.Plain.{wireOf, AllPlain, both}
 use Rattle.model.proofs.Tables.{at-put-same}
-use Rattle.model.proofs.Reached.{Reached, Move, Moves, attempt-moves, moved}
+use Rattle.model.proofs.Reached.{Reached, Move, Moves, attempted-moves, moved}
 use Rattle.model.proofs.Codes.{never-ten, never-thirteen, run-long}
 use Rattle.model.proofs.Theorem.{invariant, run-of}
 
@@ -320,12 +320,10 @@ module _ (n : ℕ) (l : List ℕ) (a : Accepted n l) (past : (k : ℕ) → n < k
       (λ z. limit-nine k e rest v (rw z at h))
 
   pub nine-by-count : (e : Event) → event s e .code ≡ 9 → t .rig .accepted ≡ eventLimit
-  unfolding event tested played eventAt settled deskOf
+  unfolding event tested played eventAt settled
   nine-by-count e h =
       by-bool (eqb (length (s .list)) messageLimit)
-      (λ b. by-bool (sitesNamed (sizeOf t) e)
-      (λ d. judged-nine (actor e) _ _ _ (attempt-moves n l s r well-shaped e d) (rw (b, well-shaped, d) at h))
-      (λ d. let x : _≡_ {A = ℕ} 4 9 = rw (b, well-shaped, d) at h in absurd (omega arith)))
+      (λ b. judged-nine (actor e) _ _ _ (attempted-moves n l s r well-shaped e) (rw (b, well-shaped) at h))
       (λ b. let x : _≡_ {A = ℕ} 13 9 = rw b at h in absurd (omega arith))
 
 -- Said of every run

@@ -2,7 +2,7 @@
 use Prim.Native.Nat.{ℕ, _≤_}
 use mathlib.Core.Path.{_≡_, refl, sym, _∙_, ap}
 use mathlib.Core.Bool.{Bool, cond}
-use mathlib.Core.List.{List, _++_, map}
+use mathlib.Core.List.{List, _++_, map, map-append}
 use lib.Dec.{eqb}
 use lib.ListN.{length}
 use Rattle.rig.specs.declared.Desk.{Desk}
@@ -20,7 +20,7 @@ use Rattle.model.specs.Tables.{at, cell}
 use Rattle.model.specs.State.{Tables, setsOf, hasMember, siteOf, modeOf, failedIn, heldOf, heirOf, inquiredOf, deskOf, withDesk}
 use Rattle.model.specs.Desk.{Effect}
 use Rattle.model.specs.Arbiter.{holderOf, granted, queuedUp, clockRaised, onRequest, onRelease, onYield}
-use Rattle.model.proofs.Machine.{modeNumber, askIn, systemOf, sitesOf, rowOf, sentOf, rigOf, localAt, Sized, desk-sized, rig-path, sites-path, update-self, map-append, sitesWith, clockWith, rig-with}
+use Rattle.model.proofs.Machine.{modeNumber, askIn, systemOf, sitesOf, rowOf, sentOf, rigOf, localAt, Sized, desk-sized, rig-path, sites-path, update-self, sitesWith, clockWith, rig-with}
 use Rattle.model.proofs.ArbiterRules.{Sees, SiteKept, request-sees, release-sees, handOver-sees, yield-sees, request-kept, release-kept, yield-kept}
 
 -- a site that keeps its mode

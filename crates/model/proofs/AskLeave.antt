@@ -2,7 +2,7 @@
 use Prim.Native.Nat.{ℕ, zero, suc, _+_, _≤_}
 use mathlib.Core.Path.{_≡_, refl, _∙_, ap, fun-ext}
 use mathlib.Core.Bool.{not, _&&_}
-use mathlib.Core.List.{List, _++_, map}
+use mathlib.Core.List.{List, _++_, map, map-append}
 use native.Mathlib.Numerals.{add-one}
 use lib.Dec.{eqb}
 use Rattle.basics.proofs.Basics.{by-bool}
@@ -17,7 +17,7 @@ use Rattle.model.specs.Desk.{withoutEntries}
 use Rattle.model.specs.Ask.{requests, asked}
 use Rattle.model.specs.Leave.{handOn, handOns, left}
 use Rattle.model.proofs.Tables.{at-same}
-use Rattle.model.proofs.Machine.{askIn, systemOf, rowOf, sentOf, rigOf, Sized, rig-path, sites-path, update-self, map-append, otherRow}
+use Rattle.model.proofs.Machine.{askIn, systemOf, rowOf, sentOf, rigOf, Sized, rig-path, sites-path, update-self, otherRow}
 use Rattle.model.proofs.SiteDelivered.{of-site, columns}
 
 requests-same : (t : Tables) (s seq n : ℕ) → map sentOf (requests (deskOf t s) seq n) ≡ R.inOrder (R.requests (systemOf t) s (askWith seq)) n

@@ -19,7 +19,7 @@ use Rattle.rig.specs.Limits.{messageLimit, eventLimit}
 use Rattle.model.specs.State.{Stored, underWay, isResting, isInside, deskOf}
 use Rattle.model.specs.Deliver.{between}
 use Rattle.model.specs.Shape.{wellShaped}
-use Rattle.model.specs.Event.{actor, sitesNamed, Attempt, refused, possible, takenOff, attempt, numbersFit, limitCode, effectCode, Outcome, padded, acceptedState, judged, eventAt, settled, played, tested, event}
+use Rattle.model.specs.Event.{actor, sitesNamed, Attempt, refused, possible, takenOff, attempt, attempted, numbersFit, limitCode, effectCode, Outcome, padded, acceptedState, judged, eventAt, settled, played, tested, event}
 use Rattle.model.specs.Run.{run}
 use Rattle.model.proofs.Reached.{room}
 
@@ -34,7 +34,7 @@ limit-low n clock grant sent rest =
     (λ b. rw (a, b) (omega arith))
     (λ b. rw (a, b) (omega arith)))
 
-padded-long : (ms : List Message) → length ms ≤ messageLimit → length (padded ms) ≡ messageLimit
+pub padded-long : (ms : List Message) → length ms ≤ messageLimit → length (padded ms) ≡ messageLimit
 unfolding padded
 padded-long ms few = rw (length-append, length-replicate) (omega arith)
 
@@ -63,12 +63,13 @@ module _ (n : ℕ) (d : Desk) (ms : List Message) where
   attempt-low (Leave k) = by-bool (isInside (d .site .mode)) (λ b. rw b tt) (λ b. rw b (omega arith))
   attempt-low (Deliver a b) = taken-low (first (between a b) ms) (withoutFirst (between a b) ms)
 
+  attempted-low : (e : Event) → Low (attempted d ms e)
+  unfolding attempted
+  attempted-low e = by-bool (sitesNamed (d .size) e) (λ c. rw c (attempt-low e)) (λ c. rw c (omega arith))
+
   at-low : (e : Event) → eventAt n d ms e .code ≤ 9
   unfolding eventAt
-  at-low e =
-      by-bool (sitesNamed (d .size) e)
-      (λ c. rw c (judged-low (attempt d ms e) (attempt-low e)))
-      (λ c. rw c (omega arith))
+  at-low e = judged-low (attempted d ms e) (attempted-low e)
 
   -- An outcome of code 0 leaves at most 1,024 messages.
   abbrev Few : Outcome → Type 0
@@ -84,10 +85,7 @@ module _ (n : ℕ) (d : Desk) (ms : List Message) where
 
   at-few : length ms ≤ messageLimit → (e : Event) → Few (eventAt n d ms e)
   unfolding eventAt
-  at-few few e =
-      by-bool (sitesNamed (d .size) e)
-      (λ c. rw c (judged-few few (attempt d ms e)))
-      (λ c. rw c (λ h. few))
+  at-few few e = judged-few few (attempted d ms e)
 
 module _ (s : Stored) where
   abbrev result : Event → Outcome

@@ -4,7 +4,7 @@ use Prim.Native.Nat.{ℕ, zero, suc, _≤_}
 use mathlib.Core.Path.{_≡_, refl, sym, _∙_, ap, fun-ext}
 use mathlib.Core.Logic.{_≢_}
 use mathlib.Core.Bool.{Bool, true, false, _&&_, cond}
-use mathlib.Core.List.{List, [], _∷_, _++_, map}
+use mathlib.Core.List.{List, [], _∷_, _++_, map, map-append}
 use native.Mathlib.Omega.{arith}
 use lib.Dec.{eqb, leb}
 use lib.ListN.{length}
@@ -26,7 +26,7 @@ use Rattle.model.specs.State.{Tables, isWaiting, seqIn, sizeOf, setsOf, 
 use Rattle.model.specs.Desk.{Effect, heldFor}
 use Rattle.model.specs.Site.{failedSet, yielded, mustYield, yieldedIf, andThen, yieldedUpTo, onFail}
 use Rattle.model.proofs.Tables.{at-put-same, at-put-other, length-put}
-use Rattle.model.proofs.Machine.{modeNumber, systemOf, rowOf, sentOf, rigOf, localAt, Sized, DeskSized, desk-sized, waits-same, rig-path, sites-path, update-self, map-append, sitesWith, clockWith, otherRow}
+use Rattle.model.proofs.Machine.{modeNumber, systemOf, rowOf, sentOf, rigOf, localAt, Sized, DeskSized, desk-sized, waits-same, rig-path, sites-path, update-self, sitesWith, clockWith, otherRow}
 use Rattle.model.proofs.SiteDelivered.{of-site, nothing, columns}
 
 leb-step : (k i : ℕ) → k ≢ suc i → leb k (suc i) ≡ leb k i

@@ -4,7 +4,7 @@ use Prim.Native.Nat.{ℕ, _≤_}
 use mathlib.Core.Path.{_≡_, refl, sym, _∙_, ap, fun-ext}
 use mathlib.Core.Logic.{_≢_}
 use mathlib.Core.Bool.{Bool, cond}
-use mathlib.Core.List.{List, [], _∷_, _++_, map}
+use mathlib.Core.List.{List, [], map}
 use native.Mathlib.Omega.{arith}
 use lib.Dec.{eqb}
 use lib.ListN.{length}
@@ -24,10 +24,10 @@ use Rattle.protocol.specs.Local.{Local}
 use Rattle.protocol.specs.System.{System}
 use Rattle.protocol.specs.Rig as R
 use Rattle.model.specs.Tables.{at, cell}
-use Rattle.model.specs.State.{Tables, isResting, isWaiting, isInside, seqIn, failedIn, sizeOf, setsOf, hasMember, siteOf, modeOf, arbiterOf, heldOf, heirOf, inquiredOf, queuedOf, deskOf, withDesk}
+use Rattle.model.specs.State.{Tables, isResting, isWaiting, isInside, seqIn, failedIn, sizeOf, setsOf, siteOf, modeOf, arbiterOf, heldOf, heirOf, inquiredOf, queuedOf, deskOf, withDesk}
 use Rattle.basics.proofs.Basics.{by-bool}
 use Rattle.model.proofs.Tables.{at-put, at-put-same, at-put-other, cell-put, length-put, Square, square-put}
-use Rattle.model.proofs.Lawful.{before, told}
+use Rattle.model.proofs.Lawful.{systemFrom}
 
 abbrev pub modeNumber : Mode → ℕ
 modeNumber Rest = 0
@@ -39,7 +39,7 @@ abbrev pub askIn : Mode → Ask
 askIn m = askWith (seqIn m)
 
 abbrev pub systemOf : Tables → System
-systemOf t = record { size = sizeOf t; sets = λ k j. hasMember (setsOf t) k j; comesBefore = before; told = told }
+systemOf t = systemFrom (sizeOf t) (setsOf t)
 
 abbrev pub sitesOf : Tables → R.Sites
 sitesOf t = record { mode = λ k. modeNumber (modeOf t k); ask = λ k. askIn (modeOf t k); failed = λ k. failedIn (modeOf t k) }
@@ -143,10 +143,6 @@ row-path t j a q he hr iq pa pq ph pr pi = λ i. record { grant = pa i .grant; h
 pub update-self : {A : Type 0} (f : ℕ → A) (b : ℕ) (v : A) → f b ≡ v → update f b v ≡ f
 unfolding update
 update-self f b v e = fun-ext (λ j. by-bool (eqb j b) (λ h. rw (h, eqb-true j b h) (sym e)) (λ h. rw h))
-
-pub map-append : {A B : Type 0} (f : A → B) (xs ys : List A) → map f (xs ++ ys) ≡ map f xs ++ map f ys
-map-append f [] ys = refl
-map-append f (x ∷ xs) ys = rw (map-append f xs ys)
 
 -- The machine's state once site b has the desk d
 

@@ -1,15 +1,18 @@
 -- The states of a run: the next one, and what holds of each.
-use mathlib.Core.Path.{_≡_, refl, sym, ap, _∙_}
+use mathlib.Core.Path.{_≡_, refl, sym, ap, subst, _∙_}
 use mathlib.Core.Bool.{true}
 use mathlib.Core.List.{List, [], _∷_, _++_}
+use borrow.Author.Tests.{eq-eqb}
 use Rattle.rig.specs.declared.Event.{Event}
+use Rattle.rig.specs.Limits.{messageLimit}
 use Rattle.model.specs.Shape.{wellShaped}
 use Rattle.model.specs.State.{Stored}
-use Rattle.model.specs.Event.{event}
-use Rattle.model.specs.Run.{fresh, run, OfRun, Sound, Demand3}
+use Rattle.model.specs.Event.{Answer, played, tested, event}
+use Rattle.model.specs.Run.{fresh, run, OfRun, InRun, Sound, Demand3}
 use Rattle.model.specs.Always.{AlwaysShaped}
 use Rattle.model.proofs.Theorem.{demand3}
 use Rattle.model.proofs.Always.{always-shaped}
+use Rattle.model.proofs.Codes.{event-long}
 
 run-more : (s : Stored) (es : List Event) (e : Event) → run s (es ++ e ∷ []) ≡ event (run s es) e .next
 unfolding run
@@ -34,3 +37,10 @@ module _ {s : Stored} (r : OfRun s) where
   pub run-sound : Sound s
   unfolding Demand3
   run-sound = rw (r .same) (demand3 (r .size) (r .sets) (r .list) (r .events) (r .passed))
+
+-- the next state of a run on a list of 1,024 entries
+pub in-run-next : (s : Stored) (e : Event) → InRun s → InRun (played s e .next)
+unfolding event tested
+in-run-next s e r =
+    let same : event s e ≡ played s e = rw (eq-eqb _ messageLimit (r .long), run-shaped (r .run)) in
+    subst (λ (x : Answer). InRun (x .next)) same (record { run = next-of-run (r .run) e; long = event-long s e (r .long) })

@@ -23,15 +23,14 @@ use Rattle.rig.specs.Limits.{siteLimit, messageLimit, eventLimit}
 use Rattle.protocol.specs.System.{System}
 use Rattle.protocol.specs.Rig as R
 use Rattle.model.specs.Tables.{at}
-use Rattle.model.specs.Sets.{member}
 use Rattle.model.specs.State.{Tables, Stored, underWay, sizeOf, setsOf, inRange, modeOf, isResting, isInside, deskOf, withDesk, withAccepted}
 use Rattle.model.specs.Desk.{Effect}
 use Rattle.model.specs.Deliver.{between, delivered}
 use Rattle.model.specs.Shape.{messageShaped, wellShaped}
-use Rattle.model.specs.Event.{actor, sitesNamed, Attempt, refused, possible, takenOff, attempt, numbersFit, limitCode, effectCode, blankMessage, padded, acceptedState, judged, eventAt, settled, played, tested, event}
+use Rattle.model.specs.Event.{actor, sitesNamed, Attempt, refused, possible, takenOff, attempt, attempted, numbersFit, limitCode, effectCode, blankMessage, padded, acceptedState, judged, eventAt, settled, played, tested, event}
 use Rattle.model.specs.Run.{run}
 use Rattle.model.proofs.Machine.{systemOf, sentOf, rigOf, Sized, DeskSized, desk-sized, sized-desk, rests-same, inside-same}
-use Rattle.model.proofs.Lawful.{before, told, systemFrom}
+use Rattle.model.proofs.Lawful.{systemFrom}
 use Rattle.model.proofs.Shaped.{Shaped, shaped, within, ends}
 use Rattle.model.proofs.AskLeave.{ask-same, leave-same}
 use Rattle.model.proofs.Delivered.{step-delivers, first-shaped, delivered-same}
@@ -57,7 +56,7 @@ pub record Reached (n : ℕ) (l : List ℕ) (s : Stored) : Type 0 where
   pub plain : AllPlain (underWay s)
 
 system-same : (t : Tables) (n : ℕ) (l : List ℕ) → sizeOf t ≡ n → t .rig .sets ≡ l → systemOf t ≡ systemFrom n l
-system-same t n l p q = λ i. record { size = p i; sets = λ k j. member (at 0 (q i) k) j; comesBefore = before; told = told }
+system-same t n l p q = λ i. systemFrom (p i) (q i)
 
 -- what a code of 0 says of the list and of the count of events
 pub room : (n clock grant : ℕ) (sent : List Message) (rest : ℕ) → limitCode n clock grant sent rest ≡ 0 → (rest + length sent ≤ messageLimit) × (n < eventLimit)
@@ -166,11 +165,18 @@ module _ (n : ℕ) (l : List ℕ) (s : Stored) (r : Reached n l s) (w : wellShap
         same = at-receiver s (r .sized) sh m (mp .0) rest b q ∙ sym (step-delivers t ms a b m e);
       }
 
-  pub attempt-moves : (e : Event) → sitesNamed (sizeOf t) e ≡ true → Moves s (actor e) (attempt (deskOf t (actor e)) ms e)
+  attempt-moves : (e : Event) → sitesNamed (sizeOf t) e ≡ true → Moves s (actor e) (attempt (deskOf t (actor e)) ms e)
   unfolding sitesNamed actor attempt
   attempt-moves (Ask k) i = ask-moves k i
   attempt-moves (Leave k) i = leave-moves k i
   attempt-moves (Deliver a b) i = deliver-moves a b (first (between a b) ms) refl
+
+  pub attempted-moves : (e : Event) → Moves s (actor e) (attempted (deskOf t (actor e)) ms e)
+  unfolding attempted deskOf
+  attempted-moves e =
+      by-bool (sitesNamed (sizeOf t) e)
+      (λ c. rw c (attempt-moves e c))
+      (λ c. rw c ((λ x. omega (arith, x)), (λ x. omega (arith, x))))
 
 module _ (n : ℕ) (l : List ℕ) where
   -- the machine's next state, by the family's own sets
@@ -213,13 +219,11 @@ module _ (n : ℕ) (l : List ℕ) where
       (λ h. rw (h, h) r)
 
   pub event-reached : (s : Stored) (e : Event) → Reached n l s → Reached n l (event s e .next)
-  unfolding event tested played eventAt settled deskOf
+  unfolding event tested played eventAt
   event-reached s e r =
       by-bool (eqb (length (s .list)) messageLimit)
       (λ a. by-bool (wellShaped s)
-      (λ b. by-bool (sitesNamed (sizeOf (s .tables)) e)
-      (λ c. rw (a, b, c) (judged-reached s _ _ _ _ r (attempt-moves n l s r b e c)))
-      (λ c. rw (a, b, c) r))
+      (λ b. rw (a, b) (judged-reached s (actor e) _ _ _ r (attempted-moves n l s r b e)))
       (λ b. rw (a, b) r))
       (λ a. rw a r)
 

@@ -3,7 +3,7 @@ use Prim.Native.Nat.{ℕ, _≤_}
 use mathlib.Core.Path.{_≡_, refl, sym, _∙_, fun-ext}
 use mathlib.Core.Logic.{_≢_}
 use mathlib.Core.Bool.{true, not, _&&_, cond}
-use mathlib.Core.List.{List, [], _++_, map}
+use mathlib.Core.List.{List, [], _++_, map, map-append}
 use native.Mathlib.Omega.{arith}
 use lib.Dec.{eqb}
 use lib.ListN.{length}
@@ -22,7 +22,7 @@ use Rattle.model.specs.State.{Tables, isWaiting, failedIn, sizeOf, setsO
 use Rattle.model.specs.Desk.{hasFailed, inquiredFor}
 use Rattle.model.specs.Site.{failedSet, yielded, allHeld, entered, taken, enteredOrYielded, takes, onReply}
 use Rattle.model.proofs.Tables.{at-put-same, at-put-other, at-same, length-put}
-use Rattle.model.proofs.Machine.{systemOf, sitesOf, rowOf, sentOf, rigOf, localAt, Sized, desk-sized, waits-same, rig-path, update-self, map-append, sitesWith}
+use Rattle.model.proofs.Machine.{systemOf, sitesOf, rowOf, sentOf, rigOf, localAt, Sized, desk-sized, waits-same, rig-path, update-self, sitesWith}
 use Rattle.model.proofs.SiteDelivered.{of-site, of-entry, nothing, columns, waiting-failed}
 
 module _ (t : Tables) (z : Sized t) (b : ℕ) (lo : 1 ≤ b) (hi : b ≤ siteLimit) (rest : List Message) (j : ℕ) (lj : 1 ≤ j) (hj : j ≤ siteLimit) (m : ℕ) where
@@ -36,9 +36,6 @@ module _ (t : Tables) (z : Sized t) (b : ℕ) (lo : 1 ≤ b) (hi : b ≤ siteLim
   -- the remembered inquire, once the number is held
   abbrev left : ℕ
   left = cond (eqb (inquiredOf t b j) m) m 0
-
-  abbrev held′ : ℕ → ℕ
-  held′ = update (λ k. heldOf t k j) b m
 
   abbrev inquired′ : ℕ → ℕ
   inquired′ = update (λ k. inquiredOf t k j) b left

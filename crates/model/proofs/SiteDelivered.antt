@@ -4,7 +4,7 @@ use Prim.Native.Nat.{ℕ, _≤_}
 use mathlib.Core.Path.{_≡_, refl, sym, _∙_, ap, fun-ext}
 use mathlib.Core.Logic.{_≢_}
 use mathlib.Core.Bool.{true, false}
-use mathlib.Core.List.{List, [], _++_, map}
+use mathlib.Core.List.{List, [], _++_, map, map-append}
 use native.Mathlib.Omega.{arith}
 use lib.Dec.{eqb}
 use lib.ListN.{length}
@@ -26,7 +26,7 @@ use Rattle.model.specs.Desk.{waits, hasFailed, heldFor, heirFor, inquire
 use Rattle.model.specs.Site.{failedSet, yielded, remembered, yieldedOrRemembered, onInquire, onTransfer}
 use Rattle.basics.proofs.Basics.{by-bool, clash}
 use Rattle.model.proofs.Tables.{at-put-same, at-put-other}
-use Rattle.model.proofs.Machine.{systemOf, sitesOf, rowOf, sentOf, rigOf, localAt, Sized, desk-sized, waits-same, rig-path, update-self, map-append, sitesWith, clockWith, otherRow, rig-with}
+use Rattle.model.proofs.Machine.{systemOf, sitesOf, rowOf, sentOf, rigOf, localAt, Sized, desk-sized, waits-same, rig-path, update-self, sitesWith, clockWith, otherRow, rig-with}
 use Rattle.model.proofs.ArbiterDelivered.{sites-kept}
 
 -- what a site's rule leaves as it is: the arbiter's part of the desk

@@ -30,7 +30,7 @@ sitesNamed n (Ask s) = inRange n s
 sitesNamed n (Leave s) = inRange n s
 sitesNamed n (Deliver a b) = inRange n a && inRange n b
 
--- What the rules make of an event at a desk: refused with 5, 6 or 7, or an effect, beside the messages that stay under way.
+-- What the rules make of an event at a desk: refused with 4 to 7, or an effect, beside the messages that stay under way.
 pub data Attempt : Type 0 where
   refused : ℕ → Attempt
   possible : Effect → List Message → Attempt
@@ -45,6 +45,10 @@ unfoldable pub attempt : Desk → List Message → Event → Attempt
 attempt d ms (Ask s) = cond (isResting (d .site .mode)) (possible (asked d) ms) (refused 5)
 attempt d ms (Leave s) = cond (isInside (d .site .mode)) (possible (left d) ms) (refused 6)
 attempt d ms (Deliver a b) = takenOff d (first (between a b) ms) (withoutFirst (between a b) ms)
+
+-- "4 if a named site is outside 1 to N. Then ..."
+unfoldable pub attempted : Desk → List Message → Event → Attempt
+attempted d ms e = cond (not (sitesNamed (d .size) e)) (refused 4) (attempt d ms e)
 
 -- no message's number passes b
 unfoldable pub numbersUpTo : ℕ → List Message → Bool
@@ -86,9 +90,7 @@ judged accepted d ms (possible e rest) =
 
 -- One event at its site, which has the desk d: no other site's part is read or written.
 unfoldable pub eventAt : ℕ → Desk → List Message → Event → Outcome
-eventAt accepted d ms e =
-    cond (not (sitesNamed (d .size) e)) (outcome 4 d ms)
-    (judged accepted d ms (attempt d ms e))
+eventAt accepted d ms e = judged accepted d ms (attempted d ms e)
 
 -- the code of an event, and the state that it leaves
 pub record Answer : Type 0 where
@@ -112,6 +114,10 @@ acceptedState t k d ms = record { tables = withAccepted (withDesk t k d) (t .rig
 -- "Nothing of the state or a lent buffer changes then", with a code other than 0
 unfoldable pub settled : Stored → ℕ → Outcome → Answer
 settled s k o = answer (o .code) (cond (eqb (o .code) 0) (acceptedState (s .tables) k (o .desk) (o .messages)) s)
+
+-- the attempt of an event on a state
+abbrev pub attemptOn : Stored → Event → Attempt
+attemptOn s e = attempted (deskOf (s .tables) (actor e)) (underWay s) e
 
 -- an event on a state that has passed the tests of its list and its shape: at its site, and the state that is left
 unfoldable pub played : Stored → Event → Answer

@@ -4,9 +4,11 @@ use mathlib.Core.Path.{_≡_}
 use mathlib.Core.Bool.{Bool, not, _&&_, _||_, cond}
 use mathlib.Core.List.{List, [], _∷_}
 use lib.Dec.{eqb}
+use lib.ListN.{length}
 use Rattle.rig.specs.declared.Rig.{Rig}
 use Rattle.rig.specs.declared.Message.{Message}
 use Rattle.rig.specs.declared.Event.{Event}
+use Rattle.rig.specs.Limits.{messageLimit}
 use Rattle.rig.specs.Messages.{REPLY, RELEASE, YIELD}
 use Rattle.basics.specs.Helpers.{count, tally}
 use Rattle.model.specs.Setup.{setupCode}
@@ -30,6 +32,11 @@ pub record OfRun (s : Stored) : Type 0 where
   pub events : List Event
   pub passed : setupCode size sets ≡ 0
   pub same : s ≡ run (fresh size sets list) events
+
+-- such a state on a list of 1,024 entries: no event on it is refused with 13 or 10
+pub record InRun (s : Stored) : Type 0 where
+  pub run : OfRun s
+  pub long : length (s .list) ≡ messageLimit
 
 -- a property of every state of every run of sets that setup passes
 abbrev pub Always : (Stored → Type 0) → Type 0

@@ -20,7 +20,7 @@ use Rattle.model.specs.Arbiter.{headOf, nextHeir, granted, grantedHead, clockRa
 use Rattle.model.specs.Site.{failedSet, yielded, allHeld, entered, taken, enteredOrYielded, takes, onReply, remembered, yieldedOrRemembered, onInquire, mustYield, yieldedIf, yieldedUpTo, onFail, onTransfer}
 use Rattle.model.specs.Deliver.{between, delivered}
 use Rattle.model.specs.Shape.{isNumber, isGiven, setShaped, modeShaped, siteBlank, siteShaped, holderShaped, arbiterShaped, placeShaped, rigShaped, entryShaped, ownShaped, heirShaped, queuedShaped, everywhere, numberShaped, plainShaped, releaseShaped, aboutShaped, messageShaped, messagesShaped, tablesShaped, wellShaped}
-use Rattle.model.specs.Event.{actor, sitesNamed, takenOff, attempt, numbersUpTo, numbersFit, limitCode, blankMessage, padded, acceptedState, judged, eventAt, settled, played, tested, event}
+use Rattle.model.specs.Event.{actor, sitesNamed, takenOff, attempt, attempted, numbersUpTo, numbersFit, limitCode, blankMessage, padded, acceptedState, judged, eventAt, settled, played, tested, event}
 use Rattle.model.specs.Run.{fresh, waitingCount}
 use Rattle.player_numbers.specs.Numbers.{allDigits, noLeadingZero, value, number}
 use Rattle.player_grammar.specs.Grammar.{longer, parts, before, allNumbers, numbers, ascends, siteBit, withSites, setLine, one, moveLine, starts, form, eventForm, meaningOf}
@@ -69,7 +69,7 @@ pub printedExample :
     ∷ line 12 0 0 0 0
     ∷ line 13 7 0 0 0
     ∷ []
-unfolding at put cell all any count member meet names sizeListed allName meetsEarlier allMeet setupCode keptSets freshRig freshTables deskOf withDesk withAccepted comesBefore headWith head requests asked handOn handOns left headOf nextHeir granted grantedHead clockRaised failFormer inquireOrFail answers queuedUp onRequest inquireIfBefore headNamed heirTakesOver holderReleases fromHolder isEarly earlyRelease onRelease onYield failedSet yielded allHeld entered taken enteredOrYielded takes onReply remembered yieldedOrRemembered onInquire mustYield yieldedIf yieldedUpTo onFail onTransfer between first withoutFirst delivered isNumber isGiven setShaped modeShaped siteBlank siteShaped holderShaped arbiterShaped placeShaped rigShaped entryShaped ownShaped heirShaped queuedShaped everywhere numberShaped plainShaped releaseShaped aboutShaped messageShaped messagesShaped tablesShaped wellShaped actor sitesNamed takenOff attempt numbersUpTo numbersFit limitCode padded acceptedState judged eventAt settled played tested event fresh waitingCount lowest insideUpTo lineOf printed
+unfolding at put cell all any count member meet names sizeListed allName meetsEarlier allMeet setupCode keptSets freshRig freshTables deskOf withDesk withAccepted comesBefore headWith head requests asked handOn handOns left headOf nextHeir granted grantedHead clockRaised failFormer inquireOrFail answers queuedUp onRequest inquireIfBefore headNamed heirTakesOver holderReleases fromHolder isEarly earlyRelease onRelease onYield failedSet yielded allHeld entered taken enteredOrYielded takes onReply remembered yieldedOrRemembered onInquire mustYield yieldedIf yieldedUpTo onFail onTransfer between first withoutFirst delivered isNumber isGiven setShaped modeShaped siteBlank siteShaped holderShaped arbiterShaped placeShaped rigShaped entryShaped ownShaped heirShaped queuedShaped everywhere numberShaped plainShaped releaseShaped aboutShaped messageShaped messagesShaped tablesShaped wellShaped actor sitesNamed takenOff attempt attempted numbersUpTo numbersFit limitCode padded acceptedState judged eventAt settled played tested event fresh waitingCount lowest insideUpTo lineOf printed
 printedExample = refl
 
 -- the bytes of a text of ASCII characters
@@ -117,5 +117,5 @@ pub printedText :
     ∷ "step=12 code=0 inside=0 waiting=0 flying=0"
     ∷ "step=13 code=7 inside=0 waiting=0 flying=0"
     ∷ [])
-unfolding at put cell all any count member meet names sizeListed allName meetsEarlier allMeet setupCode keptSets freshRig freshTables deskOf withDesk withAccepted comesBefore headWith head requests asked handOn handOns left headOf nextHeir granted grantedHead clockRaised failFormer inquireOrFail answers queuedUp onRequest inquireIfBefore headNamed heirTakesOver holderReleases fromHolder isEarly earlyRelease onRelease onYield failedSet yielded allHeld entered taken enteredOrYielded takes onReply remembered yieldedOrRemembered onInquire mustYield yieldedIf yieldedUpTo onFail onTransfer between first withoutFirst delivered isNumber isGiven setShaped modeShaped siteBlank siteShaped holderShaped arbiterShaped placeShaped rigShaped entryShaped ownShaped heirShaped queuedShaped everywhere numberShaped plainShaped releaseShaped aboutShaped messageShaped messagesShaped tablesShaped wellShaped actor sitesNamed takenOff attempt numbersUpTo numbersFit limitCode padded acceptedState judged eventAt settled played tested event fresh waitingCount lowest insideUpTo lineOf printed allDigits noLeadingZero value number longer parts before allNumbers numbers ascends siteBit withSites setLine one moveLine starts form meaningOf digits decimal stepLine counted sizeIn setIn eventIn onSize allGiven onSet printedLine onEvent atStage onLine endsAt onEnd start transcript output
+unfolding at put cell all any count member meet names sizeListed allName meetsEarlier allMeet setupCode keptSets freshRig freshTables deskOf withDesk withAccepted comesBefore headWith head requests asked handOn handOns left headOf nextHeir granted grantedHead clockRaised failFormer inquireOrFail answers queuedUp onRequest inquireIfBefore headNamed heirTakesOver holderReleases fromHolder isEarly earlyRelease onRelease onYield failedSet yielded allHeld entered taken enteredOrYielded takes onReply remembered yieldedOrRemembered onInquire mustYield yieldedIf yieldedUpTo onFail onTransfer between first withoutFirst delivered isNumber isGiven setShaped modeShaped siteBlank siteShaped holderShaped arbiterShaped placeShaped rigShaped entryShaped ownShaped heirShaped queuedShaped everywhere numberShaped plainShaped releaseShaped aboutShaped messageShaped messagesShaped tablesShaped wellShaped actor sitesNamed takenOff attempt attempted numbersUpTo numbersFit limitCode padded acceptedState judged eventAt settled played tested event fresh waitingCount lowest insideUpTo lineOf printed allDigits noLeadingZero value number longer parts before allNumbers numbers ascends siteBit withSites setLine one moveLine starts form eventForm meaningOf digits decimal stepLine counted sizeIn setIn eventIn onSize allGiven onSet printedLine onEvent atStage onLine endsAt onEnd start transcript output
 printedText = refl

@@ -4,15 +4,15 @@ use mathlib.Core.Path.{_≡_, refl}
 use mathlib.Core.List.{List, [], map}
 use mathlib.Core.Option.{some}
 use native.Mathlib.Numerals.{add-one}
-use lib.ListN.{set, replicate}
+use lib.ListN.{set}
 use borrow.Author.Tests.{le-leb, lt-ltb}
 use Rattle.rig.specs.declared.Rig.{Rig}
-use Rattle.rig.specs.Limits.{siteLimit, messageLimit}
+use Rattle.rig.specs.Limits.{siteLimit}
 use Rattle.model.specs.Tables.{put}
 use Rattle.model.specs.Setup.{sizeListed, setupCode, freshRig}
 use Rattle.model.specs.State.{freshTables}
 use Rattle.model.specs.Run.{fresh, run}
-use Rattle.list_rows.specs.Rows.{messageOf, zeroRow}
+use Rattle.list_rows.specs.Rows.{messageOf, zeroRows}
 use Rattle.player_printing.specs.Printing.{stopLine, Printed}
 use Rattle.player_text.specs.declared.Player.{Player}
 use Rattle.player_text.specs.declared.Said.{Said}
@@ -67,6 +67,6 @@ module _ (p : Player) {page : List ℕ} (ts : List (List (List ℕ))) (rows : Li
         rw (counts, e, f, ts-same, rows-same) (
           record { known = refl; printed = nothing },
           record {
-            fits = (record { run = record { size = p .size; sets = sets; list = map messageOf (replicate messageLimit zeroRow); events = []; passed = e; same = refl }; long = refl }, refl);
+            fits = (record { run = record { size = p .size; sets = sets; list = map messageOf (zeroRows); events = []; passed = e; same = refl }; long = refl }, refl);
           },
         )

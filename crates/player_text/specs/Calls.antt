@@ -4,12 +4,12 @@ use mathlib.Core.Path.{_≡_}
 use mathlib.Core.List.{List}
 use lib.ListN.{replicate}
 use denote.Ref.{now}
-use Rattle.rig.specs.Limits.{siteLimit, messageLimit, blankTables}
+use Rattle.rig.specs.Limits.{siteLimit, blankTables}
 use Rattle.model.specs.Setup.{noRig}
 use Rattle.model.specs.State.{Stored}
-use Rattle.list_rows.specs.Rows.{zeroRow, ZeroPast}
+use Rattle.list_rows.specs.Rows.{zeroRows, ZeroPast}
 use Rattle.list_rows.specs.State.{stored, Lent}
-use Rattle.event_rows.specs.Steps.{InRun}
+use Rattle.model.specs.Run.{InRun}
 use Rattle.player_printing.specs.Printing.{Printed}
 use Rattle.player_text.specs.declared.Player.{Player}
 use Rattle.player_text.specs.declared.Said.{Said}
@@ -28,7 +28,7 @@ text p ts rows = textOf p (stored (p .rig) ts rows (p .count))
 -- before the first event: tables of zeros, and a list of zeros
 pub record Untouched (ts : List (List (List ℕ))) (rows : List (List ℕ)) : Type 0 where
   pub noneStored : ts ≡ blankTables
-  pub noneUnderWay : rows ≡ replicate messageLimit zeroRow
+  pub noneUnderWay : rows ≡ zeroRows
 
 -- what holds at each stage: N and the sets still to come; a state of a run
 abbrev pub HoldsAt : Stage → Player → List (List (List ℕ)) → List (List ℕ) → Type 0

@@ -1,5 +1,6 @@
 -- Document 01, "One event": what the arbiter does with a request, a release or a yield. Each rule has the name that it has in the
--- crate `model`. It starts when the message is off the list, and appends what it sends.
+-- crate `model`, but for a release with an heir, which is `onHandOver` here. It starts when the message is off the list, and appends
+-- what it sends.
 use Prim.Native.Nat.{ℕ, zero, suc}
 use mathlib.Core.Bool.{Bool, not, _&&_, cond}
 use lib.Dec.{eqb}
@@ -60,7 +61,7 @@ module _ (p : Setting) where
       let h = headOf v.tables.queued in
       cond (eqb h 0) v (granted v h (v.tables.queued h))
 
-  -- a fail to site k, about its queued ask
+  -- a fail to site k, for its queued ask
   abbrev pub failTo : Local → ℕ → Message
   failTo t k = fail k (p .told (t.queued k))
 

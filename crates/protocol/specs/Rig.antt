@@ -75,7 +75,7 @@ pub data Event : Type 0 where
   leave : ℕ → Event
   deliver : ℕ → ℕ → Event
 
--- "All three entries of every member, held or not, are cleared."
+-- "All three entries of every member, held or not, are cleared.": those that site s has for the one arbiter of this row
 abbrev pub withoutEntries : Row → ℕ → Row
 withoutEntries r s = record { grant = r.grant; holder = r.holder; holderAsk = r.holderAsk; queued = r.queued; held = update r.held s 0; heir = update r.heir s 0; inquired = update r.inquired s 0 }
 
@@ -96,12 +96,12 @@ rowsTaken r j b n = update r.rows j (rowOf (taken (localAt r j) b n))
 abbrev pub withoutInquired : Row → ℕ → Row
 withoutInquired r b = record { grant = r.grant; holder = r.holder; holderAsk = r.holderAsk; queued = r.queued; held = r.held; heir = r.heir; inquired = update r.inquired b 0 }
 
--- "Clock and sequence number become clock + 1": the ask that site s makes
+-- "Clock and sequence number become clock + 1": the ask that site s makes next
 abbrev pub made : Rig → ℕ → Ask
 made r s = askWith (suc (r.clock s))
 
 module _ (y : System) where
-  -- "requests go to its members, ascending"
+  -- "requests go to its members, ascending": what goes to arbiter j alone; `inOrder` has them ascend
   abbrev pub requests : ℕ → Ask → ℕ → List Message
   requests s a j = cond (y.sets s j) (request s a ∷ []) []
 
@@ -115,7 +115,7 @@ module _ (y : System) where
     underWay = r.underWay ++ inOrder (requests s (made r s)) y.size;
   }
 
-  -- "For each member j ascending, held with number g"
+  -- "For each member j ascending, held with number g": what site s sends on for arbiter j alone; `inOrder` has them ascend
   abbrev pub handOns : Rig → ℕ → ℕ → List Message
   handOns r s j = cond (y.sets s j && not (eqb ((r.rows j) .held s) 0)) (handOn s ((r.rows j) .heir s) ((r.rows j) .held s)) []
 
@@ -136,7 +136,8 @@ module _ (y : System) where
   abbrev pub effect : Rig → ℕ → Bool → Message → View
   effect r j e m = handled (settingOf y j) (view (localAt r j) []) e m
 
-  -- a message that changes the row of its arbiter j alone; rest is the list without it
+  -- A message that changes the row of its arbiter j alone; rest is the list without it. The sites stay: an inquire yields only where
+  -- failed is set already.
   abbrev pub withEffect : Rig → List Sent → (ℕ → ℕ) → ℕ → Message → Rig
   withEffect r rest clock j m = record {
     sites = r.sites;
@@ -150,7 +151,8 @@ module _ (y : System) where
   failSeen r b i = onFail (settingOf y i) (view (localAt r i) []) b
 
   -- what the message m of arbiter j makes of the rig; rest is the list without it. A request raises the clock of the site that is the
-  -- arbiter; a fail may be followed by yields to every arbiter; a reply may let its site enter.
+  -- arbiter; a fail may be followed by yields to every arbiter; a reply may let its site enter, and
+  -- else leaves the sites, for it too yields only where failed is set already.
   unfoldable pub delivered : Rig → List Sent → ℕ → Message → Rig
   delivered r rest j (request k a) = withEffect r rest (update r.clock j (max (r.clock j) a.number)) j (request k a)
   delivered r rest j (release k n) = withEffect r rest r.clock j (release k n)

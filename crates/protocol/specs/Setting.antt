@@ -6,7 +6,8 @@ use mathlib.Core.Bool.{Bool, true, false}
 use Rattle.protocol.specs.Ask.{Ask}
 
 -- how many sites there are, the arbiter, the sites that have it in their request set, the order of asks, and the number that a fail
--- tells of an ask: comesBefore a k b l says that the ask a of site k comes before the ask b of site l
+-- tells of an ask (`told`). member k says that the arbiter is a member of the set of site k; comesBefore a k b l says that the ask a
+-- of site k comes before the ask b of site l.
 pub record Setting : Type 0 where
   pub size : ℕ
   pub arbiter : ℕ

@@ -1,4 +1,5 @@
--- What does not change in a run: the family of request sets, the order of asks, and what a fail tells. What setup checks of the sets.
+-- What does not change in a run: the family of request sets, the order of asks, and what a fail tells. What is assumed of
+-- them: what setup checks of the sets, and the laws of the order.
 use Prim.Native.Nat.{ℕ, _≤_}
 use mathlib.Core.Path.{_≡_}
 use mathlib.Core.Logic.{_≢_}

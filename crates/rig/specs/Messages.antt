@@ -1,8 +1,10 @@
 -- Document 01, "The tables": "A message is kind, from, to, about, number. Kinds: 1 request, 2 reply, 3 release, 4 inquire,
 -- 5 fail, 6 yield, 7 transfer. `about` is the arbiter in a reply, the heir in a transfer, the heir or 0 in a release,
 -- otherwise 0. `number` is 0 in a fail, else at least 1: the sequence number in a request, otherwise a grant number."
-use Prim.Native.Nat.{ℕ}
+use Prim.Native.Nat.{ℕ, _≤_}
+use mathlib.Core.Path.{_≡_}
 use Rattle.rig.specs.declared.Message.{Message}
+use Rattle.rig.specs.Limits.{siteLimit, SiteNumber}
 
 abbrev pub REQUEST : ℕ
 REQUEST = 1
@@ -46,3 +48,9 @@ yield from to grant = record { kind = YIELD; from = from; to = to; about = 0; nu
 
 abbrev pub transfer : ℕ → ℕ → ℕ → ℕ → Message
 transfer from to heir grant = record { kind = TRANSFER; from = from; to = to; about = heir; number = grant }
+
+-- a message names sites: its sender is one, the arbiter of a reply is one, and `about` is one or 0
+pub record NamesSites (m : Message) : Type 0 where
+  pub sender : SiteNumber (m .from)
+  pub arbiter : m .kind ≡ REPLY → SiteNumber (m .about)
+  pub about : m .about ≤ siteLimit

@@ -14,7 +14,8 @@ ghost use Rattle.rig.specs.Limits.{numberLimit};
 ghost use Rattle.model.specs.Desk.{withSite, withoutEntries};
 ghost use Rattle.model.specs.Ask.{requests, asked};
 ghost use Rattle.model.specs.Leave.{handOn, handOns, left};
-ghost use Rattle.event_effects.specs.Effects.{CarriesOut, Appends};
+ghost use Rattle.list_rows.specs.Rows.{Appends};
+ghost use Rattle.event_effects.specs.Effects.{CarriesOut};
 ghost use Rattle.site_ask_leave.specs.Needs.{AskFits, LeaveFits};
 ghost use Rattle.site_ask_leave.specs.Turns.{requestIf, handOnIf};
 

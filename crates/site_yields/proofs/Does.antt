@@ -1,13 +1,13 @@
 -- What is done without a message, and what is done one thing after another.
 use Prim.Native.Nat.{ℕ, zero, suc, _≤_}
-use mathlib.Core.Path.{_≡_, _∙_}
-use mathlib.Core.List.{List, [], append-assoc, map-append}
+use mathlib.Core.Path.{_≡_}
+use mathlib.Core.List.{List, []}
 use native.Mathlib.Omega.{arith}
 use lib.ListN.{length, length-append}
 use Rattle.rig.specs.declared.Desk.{Desk}
 use Rattle.event_effects.specs.declared.Acted.{Acted}
 use Rattle.event_effects.specs.Effects.{CarriesOut}
-use Rattle.event_effects.proofs.Effects.{sent-none, carries-sent, still-behind}
+use Rattle.event_effects.proofs.Effects.{sent-none, sent-more, carries-sent}
 use Rattle.basics.proofs.Basics.{by-bool}
 use Rattle.model.specs.Desk.{Effect, effect}
 use Rattle.model.specs.Site.{yielded, mustYield, yieldedIf, yieldedUpTo, andThen}
@@ -21,9 +21,7 @@ pub did-then : {e : Effect} (f : Desk → Effect) {n : ℕ} {rows mid after : Li
 did-then {e} f {n} {rows} {mid} {after} {a} {b} s t =
     let u = rw (s .desk) at t in record {
       desk = u .desk;
-      count = u .count ∙ rw (s .count, length-append) (omega arith);
-      sent = u .sent ∙ rw (s .sent, map-append, append-assoc);
-      rest = u .rest ∙ still-behind (a .count) (length (f (e .desk) .sent)) (b .count) mid rows (u .count) (s .rest);
+      appends = sent-more (s .appends) (u .appends);
     }
 
 if-short : (d : Desk) (j : ℕ) → length (yieldedIf d j .sent) ≤ 1

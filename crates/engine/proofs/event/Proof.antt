@@ -60,12 +60,12 @@ use Rattle.rig.specs.declared.Answer.{Answer}
 use Rattle.list_search.specs.declared.Found.{Found}
 use Rattle.rig.specs.Limits.{messageLimit}
 use Rattle.model.specs.Event as Model
-use Rattle.list_rows.specs.Rows.{rowOf, messageOf, ZeroPast}
+use Rattle.list_rows.specs.Rows.{rowOf, messageOf, zeroRows, ZeroPast}
 use Rattle.list_rows.specs.State.{stored as in-rows}
 use Rattle.list_lent.specs.First.{firstIn}
 use Rattle.event_sites.specs.Places.{senderOf, receiverOf}
 use Rattle.event_rows.specs.Tested.{testedWith}
-use Rattle.engine_parts.specs.Parts.{listCode, readOf, blankRows, changedFrom}
+use Rattle.engine_parts.specs.Parts.{listCode, readOf, changedFrom}
 use Rattle.engine.specs.Lent.{stored, answered}
 use Rattle.engine.proofs.Joined.{code-few, read-in, read-few, zero-past, from-in, from-full, joined}
 use Rattle.rig.proofs.Rig as G
@@ -318,8 +318,8 @@ module _ {M : Type 1} (𝓤 : URA M) (H : Heap 𝓤) (A : Atoms 𝓤) (W : Given
   goes-blank : ent 𝓤 (emp 𝓤) (Blank 𝓤 H A mem′ run .pre to-blank)
   goes-blank = qed W [] ∵ nothing ! $ nothing ! $ join ! $ frame ! $ done !
 
-  said-blank : (r : List (List ℕ)) → ent 𝓤 (ensured 𝓤 H A blank-rows.ended (blank-rows.clauses 𝓤 H A mem′ run) tt tt tt r) (fact 𝓤 (r ≡ blankRows))
-  said-blank r = exE 𝓤 _ (λ ws. snd∗ 𝓤 (sem 𝓤 H A (lasts blank-rows.ended tt tt ws)) (fact 𝓤 (r ≡ blankRows)))
+  said-blank : (r : List (List ℕ)) → ent 𝓤 (ensured 𝓤 H A blank-rows.ended (blank-rows.clauses 𝓤 H A mem′ run) tt tt tt r) (fact 𝓤 (r ≡ zeroRows))
+  said-blank r = exE 𝓤 _ (λ ws. snd∗ 𝓤 (sem 𝓤 H A (lasts blank-rows.ended tt tt ws)) (fact 𝓤 (r ≡ zeroRows)))
 
   abbrev to-to-rows : ℕ → GName → ℕ → GName → ℕ → List (List ℕ) → ToRows 𝓤 H A mem′ run .Ghost
   to-to-rows α δ β ε b rs = (((α ∷ [], (β ∷ [], tt)), (fullShare, (fullShare, tt)), tt, (xs δ ys, (k, (rows b ε rs, tt))), (s ∷ [], (vint w64 k ∷ [], (sliceVal (b, 0) (length rs) ∷ [], tt)))), tt)
@@ -442,7 +442,7 @@ module _ {M : Type 1} (𝓤 : URA M) (H : Heap 𝓤) (A : Atoms 𝓤) (W : Given
         use0 W (raw (Blank 𝓤 H A mem′ run .pre to-blank)) goes-blank $
         calls-at ! fm (Blank 𝓤 H A mem′ run) known-blank-rows to-blank (no-more !) (λ v₅.
         use1 W (later (some (λ (r : List (List ℕ)). (‵ ftrue ⊛ ‵ (B .own r (v₅ ∷ []))) ⊛ raw (ensured 𝓤 H A blank-rows.ended (blank-rows.clauses 𝓤 H A mem′ run) tt tt tt r)))) (id⊢ 𝓤 _) $ await ! tt $ pick ! (λ rs.
-        split ! $ move ! (1 ∷ []) $ use1 W (raw (fact 𝓤 (rs ≡ blankRows))) (said-blank rs) $ heard ! (rs ≡ blankRows) (λ p₅. split ! $ drop ! $ facts ! B (Is B) (shows 𝓤 H A B) rs (v₅ ∷ []) (λ is₅.
+        split ! $ move ! (1 ∷ []) $ use1 W (raw (fact 𝓤 (rs ≡ zeroRows))) (said-blank rs) $ heard ! (rs ≡ zeroRows) (λ p₅. split ! $ drop ! $ facts ! B (Is B) (shows 𝓤 H A B) rs (v₅ ∷ []) (λ is₅.
         land ! (from ! (stop !)) (init ! 28 refl (array-lawful 𝓤 H A W Five (array-lawful 𝓤 H A W u64 (uint-lawful 𝓤 H A W w64) 5) 1024 .typed rs (v₅ ∷ []) is₅ .0)) $
         rewrite ! 28 (λ (u : Val). ‵ (fat fullShare arr l₁₆ 0 u)) (ap only (known-rows v₅ rs is₅)) refl $
         assigns ! (of-opd ! (load ! (from ! (stop !)) (look ! 28 refl))) (from ! (stop !)) (init ! 40 refl (array-lawful 𝓤 H A W Five (array-lawful 𝓤 H A W u64 (uint-lawful 𝓤 H A W w64) 5) 1024 .typed rs (all rs) (blank-is v₅ rs is₅) .0)) $

@@ -79,7 +79,7 @@ deliver-requires c κs =
     let found = sym (c .before .before .before .before .before .before .before .before .first .ensures) ∙ c .before .before .before .before .before .before .place .given .1 in
     let m = messageOf (getD (now (a .list)) place []) in
     let names = p .1 .messages (a .a) (a .b) m (found-at (a .a) (a .b) (a .count) (now (a .list)) place found .2) in
-    rw (c .before .before .before .desk .ensures, c .before .message .ensures) (record { size = p .1 .size; grant = p .1 .numbers (p .0) .grant; sender = names .sender; arbiter = names .arbiter; heir = names .heir; room = omega arith })
+    rw (c .before .before .before .desk .ensures, c .before .message .ensures) (record { size = p .1 .size; grant = p .1 .numbers (p .0) .grant; names = names; room = omega arith })
 
 conclude-requires : tie.Need-conclude-requires
 conclude-requires c κs =

@@ -15,7 +15,7 @@ returns : tie.Need-returns
 returns c = rw (of-request (c .before .before .before .before .before .args .d) (c .before .before .before .before .before .args .m) (c .before .before .before .if1 .taken)) (c .before .on-request .ensures)
 
 on-reply-requires : tie.Need-on-reply-requires
-on-reply-requires c κs = (c .before .before .before .before .before .pre .arbiter (c .before .if2 .taken), search needs, search needs)
+on-reply-requires c κs = (c .before .before .before .before .before .pre .names .arbiter (c .before .if2 .taken), search needs, search needs)
 
 same-length-2 : tie.Need-same-length-2
 same-length-2 c = search needs

@@ -43,7 +43,7 @@ step-requires c κs = (sym (c .before .before .before .before .well-shaped .ensu
 
 returns-3 : tie.Need-returns-3
 unfolding testedWith tested
-returns-3 c = rw (eq-eqb _ _ (c .before .before .before .before .before .before .before .before .if1 .left), sym (c .before .before .before .before .before .well-shaped .ensures) ∙ not-false _ (c .before .before .before .before .if2 .left)) (c .step .ensures .0 .answer)
+returns-3 c = rw (eq-eqb _ _ (c .before .before .before .before .before .before .before .before .if1 .left), sym (c .before .before .before .before .before .well-shaped .ensures) ∙ not-false _ (c .before .before .before .before .if2 .left)) (c .step .ensures .0)
 
 pub event-spec : {M : Type 1} → statement M
 event-spec =

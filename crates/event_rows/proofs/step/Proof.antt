@@ -4,10 +4,9 @@ use native.Mathlib.Omega.{arith}
 use denote.Ref.{now}
 use borrow.Author.Needs.{needs}
 use Rattle.model.specs.Event.{actor}
-use Rattle.list_rows.specs.State.{stored}
 use Rattle.event_sites.specs.Places.{placeOf}
 use Rattle.event_rows.proofs.Ready.{ready, size-high, accepted-high}
-use Rattle.event_rows.proofs.Stepping.{same-attempt, stepped-at, steps}
+use Rattle.event_rows.proofs.Stepping.{same-attempt, stepped-at}
 use Rattle.event_rows.proofs.step.Statement.{statement}
 use Rattle.event_rows.proofs.step.Tie as tie
 use Rattle.event_sites.proofs.actor.Reads as actor-reads
@@ -69,10 +68,9 @@ counted-on-requires c κs =
 returns : tie.Need-returns
 returns c =
     let a = c .before .before .before .before .before .before .before .before .before .before .before .before .args in
-    let s = stored (a .t1) (now (a .tables)) (now (a .list)) (a .count) in
     let i : c .before .before .before .before .before .before .before .before .before .before .place-of .result ≡ placeOf (a .t1 .size) (actor (a .e)) = rw (c .before .before .before .before .before .before .before .before .before .before .before .actor .ensures) at (c .before .before .before .before .before .before .before .before .before .before .place-of .ensures .0) in
     let l = rw i at (c .before .before .before .step-at .ensures) in
-    (steps s (a .e) _ (stepped-at (a .t1) (now (a .tables)) _ (now (a .list)) _ (a .count) (a .e) (c .before .before .before .step-at .result) (l .0) _ _ i (c .counted-on .ensures)), l .0 .zeros, rw (same-attempt (a .t1) (now (a .tables)) (now (a .list)) (a .count) (a .e)) (l .1))
+    (stepped-at (a .t1) (now (a .tables)) _ (now (a .list)) _ (a .count) (a .e) (c .before .before .before .step-at .result) (l .0) _ _ i (c .counted-on .ensures), l .0 .zeros, rw (same-attempt (a .t1) (now (a .tables)) (now (a .list)) (a .count) (a .e)) (l .1))
 
 pub step-spec : {M : Type 1} → statement M
 step-spec =

@@ -1,7 +1,6 @@
 -- `turn_rule`: the ask's rule or the leave's.
 use native.Mathlib.Omega.{arith}
 use borrow.Author.Needs.{needs}
-use Rattle.rig.specs.Limits.{SiteNumber}
 use Rattle.event_turns.proofs.turn_rule.Statement.{statement}
 use Rattle.event_turns.proofs.turn_rule.Tie as tie
 use Rattle.site_ask_leave.proofs.ask.Reads as ask-reads

@@ -24,7 +24,11 @@ same-length : tie.Need-same-length
 same-length c = search needs
 
 returns : tie.Need-returns
-returns c = (refl, rw (c .row .ensures, add-one) (take-suc-set _ _ _ (c .before .pre)), behind-stored (now (c .before .args .list)) (c .before .args .count) (c .row .result))
+returns c = record {
+  count = refl;
+  sent = rw (c .row .ensures, add-one) (take-suc-set _ _ _ (c .before .pre));
+  rest = behind-stored (now (c .before .args .list)) (c .before .args .count) (c .row .result);
+}
 
 pub append-spec : {M : Type 1} → statement M
 append-spec =

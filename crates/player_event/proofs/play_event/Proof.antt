@@ -32,7 +32,7 @@ one-more-requires-2 c κs = search needs
 returns : tie.Need-returns
 returns c =
     let a = c .before .before .before .before .before .before .before .before .before .before .before .before .before .args in
-    plays (a .p) (a .e) (now (a .tables)) (now (a .list)) (c .before .before .before .before .before .before .before .before .step .result) _ _ (c .before .before .step-line .result) (c .before .one-more2 .result) (c .before .before .before .before .before .before .before .one-more .result) (c .before .before .before .before .inside .result) (c .before .before .before .waiting .result) (c .before .before .before .before .before .before .before .before .before .before .before .before .before .pre) (c .before .before .before .before .before .before .before .before .step .ensures .0, c .before .before .before .before .before .before .before .before .step .ensures .1) (c .before .one-more2 .ensures) (c .before .before .before .before .before .before .before .one-more .ensures) (c .before .before .before .before .inside .ensures) (c .before .before .before .waiting .ensures) (c .before .before .step-line .ensures)
+    plays (a .p) (a .e) (now (a .tables)) (now (a .list)) (c .before .before .before .before .before .before .before .before .step .result) _ _ (c .before .before .step-line .result) (c .before .one-more2 .result) (c .before .before .before .before .before .before .before .one-more .result) (c .before .before .before .before .inside .result) (c .before .before .before .waiting .result) (c .before .before .before .before .before .before .before .before .before .before .before .before .before .pre) (c .before .before .before .before .before .before .before .before .step .ensures .0) (c .before .before .before .before .before .before .before .before .step .ensures .1) (c .before .one-more2 .ensures) (c .before .before .before .before .before .before .before .one-more .ensures) (c .before .before .before .before .inside .ensures) (c .before .before .before .waiting .ensures) (c .before .before .step-line .ensures)
 
 pub play-event-spec : {M : Type 1} → statement M
 play-event-spec =

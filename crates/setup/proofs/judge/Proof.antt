@@ -1,7 +1,6 @@
 -- `judge`: the four tests in their order.
 use mathlib.Core.Path.{sym, _∙_}
 use native.Mathlib.Omega.{arith}
-use borrow.Author.Needs.{needs}
 use borrow.Author.Tests.{eq-eqb, ne-eqb}
 use Rattle.model.specs.Setup.{sizeListed, setupCode}
 use Rattle.model.proofs.Setup.{size-listed, size-too-large}

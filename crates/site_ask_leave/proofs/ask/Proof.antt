@@ -20,7 +20,7 @@ returns : tie.Need-returns
 unfolding asked
 returns c =
     let s = c .before .before .request-members .ensures in
-    record { desk = c .cleared .ensures; count = s .count; sent = s .sent; rest = s .rest }
+    record { desk = c .cleared .ensures; appends = s }
 
 pub ask-spec : {M : Type 1} → statement M
 ask-spec =

@@ -8,7 +8,7 @@ use lib.ListN.{length}
 use borrow.Author.Needs.{needs}
 use Rattle.model.specs.Tables.{at}
 use Rattle.model.specs.Leave.{handOns}
-use Rattle.event_effects.specs.Effects.{Appends}
+use Rattle.list_rows.specs.Rows.{Appends}
 use Rattle.site_ask_leave.proofs.Sends.{handOns-short}
 use Rattle.event_effects.proofs.Effects.{sent-none, sent-more}
 use Rattle.site_ask_leave.proofs.hand_on_members.Statement.{statement}

@@ -17,7 +17,7 @@ returns : tie.Need-returns
 unfolding left
 returns c =
     let s = c .before .before .before .hand-on-members .ensures in
-    record { desk = c .cleared .ensures; count = s .count; sent = s .sent; rest = s .rest }
+    record { desk = c .cleared .ensures; appends = s }
 
 pub leave-spec : {M : Type 1} → statement M
 leave-spec = tie.close (tie.spec hand-on-members-requires cleared-requires same-length returns)

@@ -7,7 +7,7 @@ use native.Mathlib.Nat.{le-antisymm}
 use lib.ListN.{length}
 use borrow.Author.Needs.{needs}
 use Rattle.model.specs.Ask.{requests}
-use Rattle.event_effects.specs.Effects.{Appends}
+use Rattle.list_rows.specs.Rows.{Appends}
 use Rattle.site_ask_leave.proofs.Sends.{requests-short}
 use Rattle.event_effects.proofs.Effects.{sent-none, sent-more}
 use Rattle.site_ask_leave.proofs.request_members.Statement.{statement}

@@ -51,9 +51,7 @@ returns c =
     let low = c .before .before .before .before .before .before .pre .0 .low in
     let e = c .before .before .append .ensures in record {
       desk = rw (c .failed-set .ensures, put-write (d .held) _ _ low, put-write (d .heir) _ _ low, put-write (d .inquired) _ _ low);
-      count = e .0;
-      sent = rw (at-read 0 (d .held) _ low) (rw (c .before .before .before .yielding .ensures) at (e .1));
-      rest = e .2;
+      appends = rw (at-read 0 (d .held) _ low) (rw (c .before .before .before .yielding .ensures) at e);
     }
 
 pub yield-member-spec : {M : Type 1} → statement M

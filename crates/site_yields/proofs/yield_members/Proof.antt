@@ -29,7 +29,7 @@ yield-if-requires c κs =
     let l = c .before .before .before .before .before .loop in
     let d = c .before .before .before .before .before .before .before .before .before .args .d in
     let h = up-to-short (failedSet d) (l .i) in
-    let n = l .inv .0 .count in
+    let n = l .inv .0 .appends .count in
     (omega arith, omega arith)
 
 add-i : tie.Need-add-i Inv-loop μ-loop

@@ -1,4 +1,4 @@
--- `passes_limits`: the tests in their order.
+-- `over_limits`: the tests in their order.
 use mathlib.Core.Path.{sym, ap, _∙_}
 use mathlib.Core.Bool.{not}
 use native.Mathlib.Omega.{arith}
@@ -6,8 +6,8 @@ use borrow.Author.Needs.{needs}
 use borrow.Author.Tests.{le-leb, lt-leb, not-true, not-false}
 use Rattle.rig.specs.Limits.{eventLimit}
 use Rattle.model.specs.Event.{numbersFit}
-use Rattle.event_limits.proofs.passes_limits.Statement.{statement}
-use Rattle.event_limits.proofs.passes_limits.Tie as tie
+use Rattle.event_limits.proofs.over_limits.Statement.{statement}
+use Rattle.event_limits.proofs.over_limits.Tie as tie
 use Rattle.event_limits.proofs.all_numbers.Reads as all-numbers-reads
 use Rattle.rig_reads.proofs.is_number.Reads as is-number-reads
 
@@ -35,8 +35,8 @@ returns-4 : tie.Need-returns-4
 unfolding numbersFit
 returns-4 c = rw (lt-leb eventLimit (c .before .before .before .before .before .before .args .accepted) (c .before .before .before .before .before .if1 .left), sym (c .before .before .before .before .is-number .ensures) ∙ not-false _ (c .before .before .before .if2 .left), sym (c .before .before .is-number2 .ensures) ∙ not-false _ (c .before .if3 .left)) (ap not (c .all-numbers .ensures))
 
-pub passes-limits-spec : {M : Type 1} → statement M
-passes-limits-spec =
+pub over-limits-spec : {M : Type 1} → statement M
+over-limits-spec =
     tie.close
     (tie.spec
     returns
