@@ -1,0 +1,2 @@
+-- Laws of a part that is read line by line.
+pub mod Turns
