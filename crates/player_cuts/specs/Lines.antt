@@ -2,7 +2,7 @@
 use Prim.Native.Nat.{_+_, _≤_}
 use mathlib.Core.Bool.{false}
 use mathlib.Core.Path.{_≡_}
-use lib.ListN.{take}
+use lib.ListN.{length, take}
 use Rattle.player_grammar.specs.Grammar.{lineLimit}
 use Rattle.player_cuts.specs.declared.Joined.{Joined}
 use Rattle.player_cuts.specs.Joins.{Joins}
@@ -12,5 +12,6 @@ pub record JoinedTo (j : Joins) (r : Joined) : Type 0 where
   pub line : take (r .held) (r .line) ≡ j .line
   pub taken : r .from ≡ j .taken
   pub whole : r .whole ≡ j .whole
+  pub long : length (r .line) ≡ lineLimit + 1
   pub room : r .held ≤ lineLimit + 1
   pub short : r .whole ≡ false → r .held ≤ lineLimit

@@ -8,10 +8,12 @@ use native.Mathlib.Omega.{arith}
 use lib.Dec.{eqb, leb}
 use lib.ListN.{length, take, drop, length-append, length-drop}
 use lib.Seq.{take-add, take-at, drop-at, drop-drop, sets-eq, length-sets, length-take-le}
-use Rattle.basics.proofs.Basics.{by-bool}
+use Rattle.basics.proofs.Basics.{by-bool, clash}
 use Rattle.player_grammar.specs.Grammar.{lineLimit}
 use Rattle.player_printing.specs.Wrote.{Wrote}
-use Rattle.player_text.specs.Player.{Text, onLine}
+use Rattle.player_text.specs.declared.Player.{Player}
+use Rattle.player_text.specs.Player.{Text, Outcome, onLine}
+use Rattle.player_text.specs.Calls.{text}
 use Rattle.player_cuts.specs.Joins.{Joins, joins, joined}
 use Rattle.player_parts.specs.Parts.{Part, reads}
 use Rattle.player_parts.proofs.Loop.{reads-more}
@@ -31,6 +33,7 @@ pub record Span (p : Text) (n : ℕ) (line bs : List ℕ) (j : Joins) : Type 0 w
   pub taken : j .taken ≡ n + bytes
   pub within : bytes ≤ length bs
   pub some : 1 ≤ length bs → 1 ≤ bytes
+  pub all : j .whole ≡ false → bytes ≡ length bs
   pub read : reads p line (take bytes bs) ≡ ends p j
 
 -- one byte: the line ends, it grows, or it is too long
@@ -71,15 +74,15 @@ unfolding reads
 reads-none p line = refl
 
 pub span : (p : Text) (n : ℕ) (line bs : List ℕ) → Span p n line bs (joined n line bs)
-span p n line [] = subst (Span p n line []) (sym (joined-none n line)) (record { bytes = 0; taken = sym (add-zero _); within = omega arith; some = λ h. h; read = reads-none p line })
+span p n line [] = subst (Span p n line []) (sym (joined-none n line)) (record { bytes = 0; taken = sym (add-zero _); within = omega arith; some = λ h. h; all = λ w. refl; read = reads-none p line })
 span p n line (b ∷ bs) =
     by-bool (eqb b 10)
-    (λ t. subst (Span p n line (b ∷ bs)) (sym (joined-end b line bs n t)) (record { bytes = 1; taken = refl; within = omega arith; some = λ h. omega arith; read = reads-end b line bs p t }))
+    (λ t. subst (Span p n line (b ∷ bs)) (sym (joined-end b line bs n t)) (record { bytes = 1; taken = refl; within = omega arith; some = λ h. omega arith; all = λ w. clash true refl w; read = reads-end b line bs p t }))
     (λ t. by-bool (leb (length (line ++ (b ∷ []))) lineLimit)
     (λ u. let s = span p (n + 1) (line ++ (b ∷ [])) bs in
     subst (Span p n line (b ∷ bs)) (sym (joined-more b line bs n t u))
-    (record { bytes = suc (s .bytes); taken = s .taken ∙ omega arith; within = omega (arith, s .within); some = λ h. omega arith; read = reads-grown b line bs p (take (s .bytes) bs) t u ∙ s .read }))
-    (λ u. subst (Span p n line (b ∷ bs)) (sym (joined-long b line bs n t u)) (record { bytes = 1; taken = refl; within = omega arith; some = λ h. omega arith; read = reads-too-long b line bs p t u })))
+    (record { bytes = suc (s .bytes); taken = s .taken ∙ omega arith; within = omega (arith, s .within); some = λ h. omega arith; all = λ w. ap suc (s .all w); read = reads-grown b line bs p (take (s .bytes) bs) t u ∙ s .read }))
+    (λ u. subst (Span p n line (b ∷ bs)) (sym (joined-long b line bs n t u)) (record { bytes = 1; taken = refl; within = omega arith; some = λ h. omega arith; all = λ w. clash true refl w; read = reads-too-long b line bs p t u })))
 
 module _ {start : Text} {line text out : List ℕ} where
   pub begins : ReadTo start line text out 0 start line 0 out
@@ -132,6 +135,24 @@ module _ {start : Text} {line text out : List ℕ} where
         → ReadTo start line text out (j .taken) (onLine next (j .line) .next) [] at′ after′
     judges w x h = prints (more ∙ rw (w, append-nil)) in-text x h
 
+    -- the same, as a program has it: the line, the place behind it, and what its call leaves
+    module _ {bytes : List ℕ} {from′ : ℕ} (b : bytes ≡ j .line) (f : from′ ≡ j .taken) where
+      pub played : {u : Text} {said after′ : List ℕ} {at′ : ℕ} → j .whole ≡ true → u ≡ onLine next bytes .next → said ≡ onLine next bytes .said
+          → Wrote said at after after′ at′ → at′ ≤ length after → ReadTo start line text out from′ u [] at′ after′
+      played {u} {said} {after′} {at′} w k e x h =
+          let line-is : onLine next bytes ≡ onLine next (j .line) = ap (onLine next) b in
+          let t : ReadTo start line text out (j .taken) (onLine next (j .line) .next) [] at′ after′ = judges w (rw (e ∙ ap (λ (o : Outcome). o .said) line-is) at x) h in
+          rw (f, k ∙ ap (λ (o : Outcome). o .next) line-is) t
+
+      pub kept : j .whole ≡ false → ReadTo start line text out from′ next bytes at after × (from′ ≡ length text)
+      kept w =
+          let s = span next from cut (drop from text) in
+          let e = s .all w in
+          (rw (f, b) (cuts w), omega (arith, f, s .taken, e, length-drop from text, r .within))
+
+      pub later : 1 ≤ length (drop from text) → from + 1 ≤ from′
+      later h = omega (arith, f, further h)
+
 -- whole lines behind what is read
 module _ {start : Text} {line text out : List ℕ} {from at : ℕ} {next : Text} {after : List ℕ} (r : ReadTo start line text out from next [] at after) where
   pub goes-on : {u : Text} {after′ : List ℕ} (s : Stretch) → GoesOn next text from u at after after′ s → ReadTo start line text out (s .from) u [] (s .at) after′
@@ -141,3 +162,11 @@ module _ {start : Text} {line text out : List ℕ} {from at : ℕ} {next : Text}
       let split : take (s .from) text ≡ take from text ++ b = ap (λ (k : ℕ). take k text) e ∙ take-add from (s .from - from) text in
       let known : reads next [] b ≡ record { said = reads next [] b .said; next = _; line = [] } = λ i. record { said = reads next [] b .said; next = sym (g .plays .known) i; line = g .plays .whole i } in
       prints r (rw (split, reads-more start line (take from text) b, r .part, known)) (g .high) (g .plays .printed) (g .room)
+
+-- nothing more is read
+pub stays : (p : Player) (ts : List (List (List ℕ))) (rows : List (List ℕ)) (text′ out : List ℕ) (from at : ℕ) → from ≤ length text′ → at ≤ length out
+    → GoesOn (text p ts rows) text′ from (text p ts rows) at out out (record { player = p; from = from; at = at })
+unfolding reads
+stays p ts rows text′ out from at f a =
+    let none : between from from text′ ≡ [] = let e : from - from ≡ 0 = omega arith in rw e in
+    record { plays = rw none (record { whole = refl; known = refl; printed = record { behind = sym (add-zero at); stored = refl } }); low = omega arith; high = f; room = a }

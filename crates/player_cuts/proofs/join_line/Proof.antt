@@ -38,7 +38,7 @@ returns c =
     let l = c .before .before .before .loop in
     let a = c .before .before .before .before .args in
     let e = l .inv .4 ∙ line-ends (now (a .text)) (take (l .n) (l .all)) (l .i) (omega arith) (c .if1 .taken) in
-    rw e (record { line = refl; taken = refl; whole = refl; room = omega (arith, l .inv .3); short = λ h. l .inv .3 })
+    rw e (record { line = refl; taken = refl; whole = refl; long = l .inv .2; room = omega (arith, l .inv .3); short = λ h. l .inv .3 })
 
 array-write-all : tie.Need-array-write-all Inv-loop μ-loop
 array-write-all c = search needs
@@ -55,7 +55,7 @@ returns-2 c =
     let a = c .before .before .before .before .before .args in
     let line-length = length-take-le (l .n) (l .all) (omega (arith, l .inv .2, l .inv .3)) in
     let e = l .inv .4 ∙ line-too-long (now (a .text)) (take (l .n) (l .all)) (l .i) (omega arith) (c .before .if1 .left) (omega (arith, line-length)) in
-    rw e (record { line = rw add-one (take-suc-set (l .all) (l .n) _ (omega (arith, l .inv .2, l .inv .3))); taken = refl; whole = refl; room = omega (arith, l .inv .3); short = λ h. clash true refl h })
+    rw e (record { line = rw add-one (take-suc-set (l .all) (l .n) _ (omega (arith, l .inv .2, l .inv .3))); taken = refl; whole = refl; long = simp length-set (l .inv .2); room = omega (arith, l .inv .3); short = λ h. clash true refl h })
 
 add-i : tie.Need-add-i Inv-loop μ-loop
 add-i c = search needs
@@ -78,7 +78,7 @@ returns-3 c =
     let l = c .before .loop in
     let a = c .before .before .args in
     let e = l .inv .4 ∙ line-goes-on (now (a .text)) (take (l .n) (l .all)) (l .i) (omega arith) in
-    rw e (record { line = refl; taken = omega arith; whole = refl; room = omega (arith, l .inv .3); short = λ h. l .inv .3 })
+    rw e (record { line = refl; taken = omega arith; whole = refl; long = l .inv .2; room = omega (arith, l .inv .3); short = λ h. l .inv .3 })
 
 pub join-line-spec : {M : Type 1} → statement M
 join-line-spec =
