@@ -5,8 +5,8 @@ use mathlib.Core.List.{List}
 use lib.Dec.{eqb}
 use Rattle.basics.proofs.Basics.{all-lowest}
 use Rattle.model.specs.Setup.{allName, allMeet}
-use Rattle.setup.specs.declared.Rule.the-variants.{Names, Meets}
-use Rattle.setup.specs.Faults.{keepsRule, firstBreaking}
+use Rattle.setup_faults.specs.declared.Rule.the-variants.{Names, Meets}
+use Rattle.setup_faults.specs.Faults.{keepsRule, firstBreaking}
 
 module _ (n : ℕ) (sets : List ℕ) where
   pub all-name : allName n sets ≡ eqb (firstBreaking Names n sets) 0

@@ -4,9 +4,9 @@ use native.Mathlib.Omega.{arith}
 use borrow.Author.Tests.{eq-eqb, ne-eqb}
 use Rattle.model.specs.Setup.{sizeListed, setupCode}
 use Rattle.model.proofs.Setup.{size-listed, size-too-large}
-use Rattle.setup.proofs.Rules.{all-name, all-meet}
-use Rattle.setup.proofs.judge.Statement.{statement}
-use Rattle.setup.proofs.judge.Tie as tie
+use Rattle.setup_faults.proofs.Rules.{all-name, all-meet}
+use Rattle.setup_faults.proofs.judge.Statement.{statement}
+use Rattle.setup_faults.proofs.judge.Tie as tie
 
 returns : tie.Need-returns
 unfolding setupCode sizeListed

@@ -7,9 +7,9 @@ use native.Mathlib.Nat.{add-zero}
 use native.Mathlib.Omega.{arith}
 use lib.ListN.{length, drop, length-set}
 use lib.Seq.{sets}
-use Rattle.player_printing.proofs.Stores.{byte-stored, word-stored}
-use Rattle.player_printing.proofs.put_word.Statement.{statement}
-use Rattle.player_printing.proofs.put_word.Tie as tie
+use Rattle.player_bytes.proofs.Stores.{byte-stored, word-stored}
+use Rattle.player_bytes.proofs.put_word.Statement.{statement}
+use Rattle.player_bytes.proofs.put_word.Tie as tie
 
 abbrev Inv-loop : tie.InvT-loop
 Inv-loop page₀ at word i₀ i-end page i = (i ≤ length word) × (i-end ≡ length word) × (length page ≡ length page₀) × (sets page (at + i) (drop i word) ≡ sets page₀ at word)

@@ -18,8 +18,8 @@ use Rattle.model.specs.Sets.{meet}
 use Rattle.model.specs.Setup.{allName, meetsEarlier}
 use Rattle.basics.proofs.Basics.{all-at, all-fails, all-more}
 use Rattle.model.proofs.Sets.{meet-and, names-below}
-use Rattle.setup.proofs.meets_earlier.Statement.{statement}
-use Rattle.setup.proofs.meets_earlier.Tie as tie
+use Rattle.setup_faults.proofs.meets_earlier.Statement.{statement}
+use Rattle.setup_faults.proofs.meets_earlier.Tie as tie
 
 -- two sets that name sites 1 to n only meet unless their bitwise and is 0
 meet-by-and : (n : ℕ) (sets : List ℕ) (k l : ℕ) → allName n sets ≡ true → k < n → meet n (getD sets k 0) (getD sets l 0) ≡ not (eqb (bitAnd (getD sets k 0) (getD sets l 0)) 0)

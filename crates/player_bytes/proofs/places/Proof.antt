@@ -3,10 +3,10 @@ use Prim.Native.Nat.{ℕ, suc, _+_}
 use mathlib.Core.Path.{_≡_}
 use native.Mathlib.Omega.{arith}
 use lib.ListN.{length, length-append}
-use Rattle.player_printing.specs.Printing.{digits, decimal}
-use Rattle.player_printing.proofs.Digits.{Room, decimal-room, one-digit, longer, some-digit, decimal-length}
-use Rattle.player_printing.proofs.places.Statement.{statement}
-use Rattle.player_printing.proofs.places.Tie as tie
+use Rattle.player_bytes.specs.Decimal.{digits, decimal}
+use Rattle.player_bytes.proofs.Digits.{Room, decimal-room, one-digit, longer, some-digit, decimal-length}
+use Rattle.player_bytes.proofs.places.Statement.{statement}
+use Rattle.player_bytes.proofs.places.Tie as tie
 
 abbrev Inv-loop : tie.InvT-loop
 Inv-loop n k₀ rest₀ k rest = (f : ℕ) × Room f rest × (k + length (digits (suc f) rest) ≡ length (decimal n) + 1)

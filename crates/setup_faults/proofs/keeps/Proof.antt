@@ -2,9 +2,9 @@
 use native.Mathlib.Numerals.{add-one}
 use borrow.Author.Needs.{needs}
 use Rattle.model.specs.Tables.{at}
-use Rattle.setup.specs.Faults.{keepsRule}
-use Rattle.setup.proofs.keeps.Statement.{statement}
-use Rattle.setup.proofs.keeps.Tie as tie
+use Rattle.setup_faults.specs.Faults.{keepsRule}
+use Rattle.setup_faults.proofs.keeps.Statement.{statement}
+use Rattle.setup_faults.proofs.keeps.Tie as tie
 
 enum-told : tie.Need-enum-told
 enum-told c = search needs

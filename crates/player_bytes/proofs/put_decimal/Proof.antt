@@ -5,11 +5,11 @@ use borrow.Author.Needs.{needs}
 use native.Mathlib.Omega.{arith}
 use lib.ListN.{length, length-append, length-set}
 use lib.Seq.{sets}
-use Rattle.player_printing.specs.Printing.{digits, decimal}
-use Rattle.player_printing.proofs.Digits.{Room, decimal-room, one-digit, longer, some-digit, decimal-length}
-use Rattle.player_printing.proofs.Stores.{last-first}
-use Rattle.player_printing.proofs.put_decimal.Statement.{statement}
-use Rattle.player_printing.proofs.put_decimal.Tie as tie
+use Rattle.player_bytes.specs.Decimal.{digits, decimal}
+use Rattle.player_bytes.proofs.Digits.{Room, decimal-room, one-digit, longer, some-digit, decimal-length}
+use Rattle.player_bytes.proofs.Stores.{last-first}
+use Rattle.player_bytes.proofs.put_decimal.Statement.{statement}
+use Rattle.player_bytes.proofs.put_decimal.Tie as tie
 
 abbrev Inv-loop : tie.InvT-loop
 Inv-loop page₀ at n end i₀ rest₀ page i rest = (f : ℕ) × Room f rest × (i < length page) × (length page ≡ length page₀) × (i + 1 ≡ at + length (digits (suc f) rest)) × (sets page at (digits (suc f) rest) ≡ sets page₀ at (decimal n))

@@ -7,7 +7,7 @@ use native.Mathlib.Omega.{arith}
 use native.Mathlib.Numerals.{add-one}
 use lib.ListN.{length, getD, drop, set, length-append, drop-of-length-le}
 use lib.Seq.{sets, set-comm, drop-cons}
-use Rattle.player_printing.specs.Wrote.{Wrote}
+use Rattle.player_bytes.specs.Wrote.{Wrote}
 
 -- some, then more behind them
 pub stores-more : (page : List ℕ) (at : ℕ) (xs ys : List ℕ) → sets (sets page at xs) (at + length xs) ys ≡ sets page at (xs ++ ys)

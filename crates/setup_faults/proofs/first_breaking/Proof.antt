@@ -8,9 +8,9 @@ use native.Mathlib.Numerals.{add-one}
 use borrow.Author.Needs.{needs}
 use Rattle.basics.specs.Helpers.{lowest}
 use Rattle.basics.proofs.Basics.{lowest-more, lowest-found}
-use Rattle.setup.specs.Faults.{keepsRule, firstBreaking}
-use Rattle.setup.proofs.first_breaking.Statement.{statement}
-use Rattle.setup.proofs.first_breaking.Tie as tie
+use Rattle.setup_faults.specs.Faults.{keepsRule, firstBreaking}
+use Rattle.setup_faults.proofs.first_breaking.Statement.{statement}
+use Rattle.setup_faults.proofs.first_breaking.Tie as tie
 
 abbrev Inv-loop : tie.InvT-loop
 Inv-loop rule size sets k₀ k = (k ≤ size) × (lowest (λ j. not (keepsRule rule size sets j)) k ≡ 0)

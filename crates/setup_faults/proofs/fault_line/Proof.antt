@@ -3,10 +3,10 @@ use mathlib.Core.Path.{sym, _∙_}
 use native.Mathlib.Omega.{arith}
 use borrow.Author.Tests.{eq-eqb, ne-eqb}
 use Rattle.basics.proofs.Basics.{lowest-within}
-use Rattle.setup.specs.Faults.{firstBreaking, faultLine}
-use Rattle.setup.proofs.Rules.{all-name}
-use Rattle.setup.proofs.fault_line.Statement.{statement}
-use Rattle.setup.proofs.fault_line.Tie as tie
+use Rattle.setup_faults.specs.Faults.{firstBreaking, faultLine}
+use Rattle.setup_faults.proofs.Rules.{all-name}
+use Rattle.setup_faults.proofs.fault_line.Statement.{statement}
+use Rattle.setup_faults.proofs.fault_line.Tie as tie
 
 first-breaking-requires : tie.Need-first-breaking-requires
 first-breaking-requires c κs = let p = c .before .pre in (p .0, p .1, λ e. cc)

@@ -7,7 +7,7 @@ use borrow.Author.Tests.{lt-ltb, le-ltb}
 use lib.Dec.{ltb}
 use lib.ListN.{length, length-append}
 use Rattle.basics.proofs.Basics.{by-bool}
-use Rattle.player_printing.specs.Printing.{digits, decimal}
+use Rattle.player_bytes.specs.Decimal.{digits, decimal}
 
 -- k + 1 places are enough for n
 abbrev pub Room : ℕ → ℕ → Type 0

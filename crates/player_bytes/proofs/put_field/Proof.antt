@@ -1,10 +1,10 @@
 -- `put_field`: the word, then the number.
 use borrow.Author.Needs.{needs}
 use native.Mathlib.Omega.{arith}
-use Rattle.player_printing.proofs.Digits.{decimal-length}
-use Rattle.player_printing.proofs.Stores.{wrote-more}
-use Rattle.player_printing.proofs.put_field.Statement.{statement}
-use Rattle.player_printing.proofs.put_field.Tie as tie
+use Rattle.player_bytes.proofs.Digits.{decimal-length}
+use Rattle.player_bytes.proofs.Stores.{wrote-more}
+use Rattle.player_bytes.proofs.put_field.Statement.{statement}
+use Rattle.player_bytes.proofs.put_field.Tie as tie
 
 put-word-requires : tie.Need-put-word-requires
 put-word-requires c κs = search needs

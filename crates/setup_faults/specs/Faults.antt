@@ -6,8 +6,8 @@ use Rattle.basics.specs.Helpers.{lowest}
 use Rattle.model.specs.Tables.{at}
 use Rattle.model.specs.Sets.{names}
 use Rattle.model.specs.Setup.{allName, meetsEarlier}
-use Rattle.setup.specs.declared.Rule.{Rule}
-use Rattle.setup.specs.declared.Rule.the-variants.{Names, Meets}
+use Rattle.setup_faults.specs.declared.Rule.{Rule}
+use Rattle.setup_faults.specs.declared.Rule.the-variants.{Names, Meets}
 
 -- set k keeps a rule; Names is broken for 2, "a set is empty or names a site outside 1 to N", and Meets for 3, "two sets share no site"
 unfoldable pub keepsRule : Rule → ℕ → List ℕ → ℕ → Bool
