@@ -24,7 +24,8 @@ use Rattle.model.specs.Event.{actor, sitesNamed, takenOff, attempt, attempted, 
 use Rattle.model.specs.Run.{fresh, waitingCount}
 use Rattle.player_numbers.specs.Numbers.{allDigits, noLeadingZero, value, number}
 use Rattle.player_grammar.specs.Grammar.{longer, parts, before, allNumbers, numbers, ascends, siteBit, withSites, setLine, one, moveLine, starts, form, eventForm, meaningOf}
-use Rattle.player_printing.specs.Printing.{digits, decimal, stepLine}
+use Rattle.player_bytes.specs.Decimal.{digits, decimal}
+use Rattle.player_printing.specs.Printing.{stepLine}
 use Rattle.player_text.specs.Player.{counted, sizeIn, setIn, eventIn, onSize, allGiven, onSet, printedLine, onEvent, atStage, onLine, endsAt, onEnd, start, transcript, output}
 use Rattle.model.specs.Printed.{Line, insideUpTo, lineOf, printed}
 

@@ -1,7 +1,8 @@
 -- Numbers and lines as they print, by calculation.
 use mathlib.Core.List.{[], _∷_}
 use mathlib.Core.Path.{_≡_, refl}
-use Rattle.player_printing.specs.Printing.{digits, decimal, stepLine, stopLine}
+use Rattle.player_bytes.specs.Decimal.{digits, decimal}
+use Rattle.player_printing.specs.Printing.{stepLine, stopLine}
 
 -- 0, 10 and 2 ^ 64 - 1
 numbers :

@@ -7,7 +7,7 @@ use native.Mathlib.Omega.{arith}
 use lib.ListN.{length, take, drop, length-take}
 use lib.Seq.{length-sets, sets-eq, take-append-seam, drop-append-seam}
 use Rattle.player_printing.specs.Printing.{Printed}
-use Rattle.player_printing.specs.Wrote.{Wrote}
+use Rattle.player_bytes.specs.Wrote.{Wrote}
 
 module _ {line page after : List ℕ} {r : ℕ} where
   pub wrote-line : Wrote line 0 page after r → r ≤ length page → Printed line page after r

@@ -1,19 +1,9 @@
 -- Document 01, "The player": the lines that it prints, as bytes.
-use Prim.Native.Nat.{ℕ, zero, suc, _+_, _/_, _%_}
-use mathlib.Core.Bool.{cond}
+use Prim.Native.Nat.{ℕ}
 use mathlib.Core.List.{List, [], _∷_, _++_}
 use mathlib.Core.Path.{_≡_}
-use lib.Dec.{ltb}
 use lib.ListN.{length, take, drop}
-
--- a number n below 10 ^ k in decimal: the most significant digit first, no leading zeros; digit d is byte 48 + d
-unfoldable pub digits : ℕ → ℕ → List ℕ
-digits zero n = []
-digits (suc k) n = cond (ltb n 10) [] (digits k (n / 10)) ++ ((48 + n % 10) ∷ [])
-
--- a number below 2 ^ 64 has at most 20 digits
-unfoldable pub decimal : ℕ → List ℕ
-decimal n = digits 20 n
+use Rattle.player_bytes.specs.Decimal.{decimal}
 
 -- `step=`, ` code=`, ` inside=`, ` waiting=`, ` flying=`
 abbrev pub stepWord : List ℕ

@@ -14,7 +14,7 @@ use Rattle.model.specs.State.{Stored, tables}
 use Rattle.model.specs.Event.{Answer, event, blankMessage}
 use Rattle.model.specs.Run.{fresh}
 use Rattle.model.specs.Printed.{lineOf}
-use Rattle.setup.specs.Faults.{faultLine}
+use Rattle.setup_faults.specs.Faults.{faultLine}
 use Rattle.player_grammar.specs.Grammar.{meaningOf}
 use Rattle.player_grammar.specs.declared.Line.{Line}
 use Rattle.player_grammar.specs.declared.Line.the-variants.{Sites, Set, Ask, Leave, Move, Malformed}

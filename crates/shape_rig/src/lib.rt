@@ -8,7 +8,7 @@ use rig_reads::is_number;
 use rig_reads::is_resting;
 use rig_reads::is_site;
 use rig_reads::tied;
-use setup::judge;
+use setup_faults::judge;
 ghost use mathlib.Core.Path.{_≡_};
 ghost use mathlib.Core.Bool.{_&&_};
 ghost use Rattle.model.specs.Shape.{setShaped, modeShaped, siteShaped, holderShaped, arbiterShaped, rigShaped};

@@ -2,8 +2,8 @@
 use borrow.Author.Needs.{needs}
 use denote.Ref.{now}
 use Rattle.player_printing.specs.Printing.{stopLine}
-use Rattle.player_printing.specs.Wrote.{Wrote}
-use Rattle.player_printing.proofs.Stores.{wrote-more}
+use Rattle.player_bytes.specs.Wrote.{Wrote}
+use Rattle.player_bytes.proofs.Stores.{wrote-more}
 use Rattle.player_printing.proofs.Lines.{wrote-line}
 use Rattle.player_printing.proofs.stop_line.Statement.{statement}
 use Rattle.player_printing.proofs.stop_line.Tie as tie

@@ -1,0 +1,3 @@
+-- Laws of digits, and of bytes stored on a page.
+pub mod Digits
+pub mod Stores
