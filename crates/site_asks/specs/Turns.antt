@@ -1,17 +1,11 @@
--- What one turn of a loop sends.
+-- What one turn of the ask's loop sends.
 use Prim.Native.Nat.{ℕ}
-use mathlib.Core.Bool.{not, _&&_, cond}
+use mathlib.Core.Bool.{cond}
 use mathlib.Core.List.{List, [], _∷_}
-use lib.Dec.{eqb}
 use Rattle.rig.specs.declared.Message.{Message}
 use Rattle.rig.specs.Messages.{request}
 use Rattle.model.specs.Sets.{member}
-use Rattle.model.specs.Leave.{handOn}
 
 -- the request of site s to site j, if j is in its set
 abbrev pub requestIf : ℕ → ℕ → ℕ → ℕ → List Message
 requestIf s set seq j = cond (member set j) (request s j seq ∷ []) []
-
--- what site s sends on for arbiter j with heir k and number g, if j is in its set and held
-abbrev pub handOnIf : ℕ → ℕ → ℕ → ℕ → ℕ → List Message
-handOnIf s set j k g = cond (member set j && not (eqb g 0)) (handOn s j k g) []

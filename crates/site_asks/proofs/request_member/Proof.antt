@@ -2,8 +2,8 @@
 use mathlib.Core.Path.{refl, sym, _∙_}
 use borrow.Author.Needs.{needs}
 use Rattle.event_effects.proofs.Effects.{sent-none, sent-one}
-use Rattle.site_ask_leave.proofs.request_member.Statement.{statement}
-use Rattle.site_ask_leave.proofs.request_member.Tie as tie
+use Rattle.site_asks.proofs.request_member.Statement.{statement}
+use Rattle.site_asks.proofs.request_member.Tie as tie
 
 is-member-requires : tie.Need-is-member-requires
 is-member-requires c κs = search needs

@@ -4,8 +4,8 @@ use borrow.Author.Tests.{ne-eqb}
 use borrow.Author.Needs.{needs}
 use Rattle.model.specs.Leave.{handOn}
 use Rattle.event_effects.proofs.Effects.{sent-one, sent-more}
-use Rattle.site_ask_leave.proofs.hand_on.Statement.{statement}
-use Rattle.site_ask_leave.proofs.hand_on.Tie as tie
+use Rattle.site_leaves.proofs.hand_on.Statement.{statement}
+use Rattle.site_leaves.proofs.hand_on.Tie as tie
 
 release-requires : tie.Need-release-requires
 release-requires c κs = search needs

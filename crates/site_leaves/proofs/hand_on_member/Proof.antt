@@ -3,8 +3,8 @@ use mathlib.Core.Path.{sym, _∙_}
 use borrow.Author.Tests.{ne-eqb, not-true, not-false}
 use borrow.Author.Needs.{needs}
 use Rattle.event_effects.proofs.Effects.{sent-none}
-use Rattle.site_ask_leave.proofs.hand_on_member.Statement.{statement}
-use Rattle.site_ask_leave.proofs.hand_on_member.Tie as tie
+use Rattle.site_leaves.proofs.hand_on_member.Statement.{statement}
+use Rattle.site_leaves.proofs.hand_on_member.Tie as tie
 
 is-member-requires : tie.Need-is-member-requires
 is-member-requires c κs = search needs

@@ -8,10 +8,10 @@ use lib.ListN.{length}
 use borrow.Author.Needs.{needs}
 use Rattle.model.specs.Ask.{requests}
 use Rattle.list_rows.specs.Rows.{Appends}
-use Rattle.site_ask_leave.proofs.Sends.{requests-short}
+use Rattle.site_asks.proofs.Sends.{requests-short}
 use Rattle.event_effects.proofs.Effects.{sent-none, sent-more}
-use Rattle.site_ask_leave.proofs.request_members.Statement.{statement}
-use Rattle.site_ask_leave.proofs.request_members.Tie as tie
+use Rattle.site_asks.proofs.request_members.Statement.{statement}
+use Rattle.site_asks.proofs.request_members.Tie as tie
 
 abbrev Inv-loop : tie.InvT-loop
 Inv-loop d seq out₀ count n₀ m₀ m-end out n m =

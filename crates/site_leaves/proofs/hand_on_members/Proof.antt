@@ -9,10 +9,10 @@ use borrow.Author.Needs.{needs}
 use Rattle.model.specs.Tables.{at}
 use Rattle.model.specs.Leave.{handOns}
 use Rattle.list_rows.specs.Rows.{Appends}
-use Rattle.site_ask_leave.proofs.Sends.{handOns-short}
+use Rattle.site_leaves.proofs.Sends.{handOns-short}
 use Rattle.event_effects.proofs.Effects.{sent-none, sent-more}
-use Rattle.site_ask_leave.proofs.hand_on_members.Statement.{statement}
-use Rattle.site_ask_leave.proofs.hand_on_members.Tie as tie
+use Rattle.site_leaves.proofs.hand_on_members.Statement.{statement}
+use Rattle.site_leaves.proofs.hand_on_members.Tie as tie
 
 abbrev Inv-loop : tie.InvT-loop
 Inv-loop out₀ count d n₀ i₀ i-end out n i =

@@ -1,8 +1,8 @@
 -- `ask`: the requests, and the desk with its entries cleared.
 use borrow.Author.Needs.{needs}
 use Rattle.model.specs.Ask.{asked}
-use Rattle.site_ask_leave.proofs.ask.Statement.{statement}
-use Rattle.site_ask_leave.proofs.ask.Tie as tie
+use Rattle.site_asks.proofs.ask.Statement.{statement}
+use Rattle.site_asks.proofs.ask.Tie as tie
 
 add-seq : tie.Need-add-seq
 add-seq c = search needs

@@ -1,8 +1,8 @@
 -- `leave`: what is sent on, and the desk with its entries cleared.
 use borrow.Author.Needs.{needs}
 use Rattle.model.specs.Leave.{left}
-use Rattle.site_ask_leave.proofs.leave.Statement.{statement}
-use Rattle.site_ask_leave.proofs.leave.Tie as tie
+use Rattle.site_leaves.proofs.leave.Statement.{statement}
+use Rattle.site_leaves.proofs.leave.Tie as tie
 
 hand-on-members-requires : tie.Need-hand-on-members-requires
 hand-on-members-requires c κs = search needs
