@@ -1,7 +1,7 @@
 // What a site does with a message that is delivered to it: the rule of the message's kind.
 use arbiter_releases::on_release;
-use arbiter_releases::on_yield;
 use arbiter_requests::on_request;
+use arbiter_yields::on_yield;
 use event_effects::Acted;
 use list_rows::Row;
 use rig::Desk;

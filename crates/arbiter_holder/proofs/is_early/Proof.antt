@@ -2,8 +2,8 @@
 use borrow.Author.Tests.{eq-eqb, ne-eqb}
 use borrow.Author.Needs.{needs}
 use Rattle.model.specs.Arbiter.{isEarly}
-use Rattle.arbiter_releases.proofs.is_early.Statement.{statement}
-use Rattle.arbiter_releases.proofs.is_early.Tie as tie
+use Rattle.arbiter_holder.proofs.is_early.Statement.{statement}
+use Rattle.arbiter_holder.proofs.is_early.Tie as tie
 
 add-if1 : tie.Need-add-if1
 add-if1 c = search needs

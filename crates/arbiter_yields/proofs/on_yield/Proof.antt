@@ -5,8 +5,8 @@ use borrow.Author.Tests.{not-true, not-false}
 use borrow.Author.Needs.{needs}
 use Rattle.model.specs.Arbiter.{onYield}
 use Rattle.event_effects.proofs.Effects.{sent-none, carries-sent}
-use Rattle.arbiter_releases.proofs.on_yield.Statement.{statement}
-use Rattle.arbiter_releases.proofs.on_yield.Tie as tie
+use Rattle.arbiter_yields.proofs.on_yield.Statement.{statement}
+use Rattle.arbiter_yields.proofs.on_yield.Tie as tie
 
 from-holder-requires : tie.Need-from-holder-requires
 from-holder-requires c κs = search needs

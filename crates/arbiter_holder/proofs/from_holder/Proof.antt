@@ -1,8 +1,8 @@
 -- `from_holder`: two tests, the first with an early return.
 use borrow.Author.Tests.{eq-eqb, ne-eqb}
 use Rattle.model.specs.Arbiter.{fromHolder}
-use Rattle.arbiter_releases.proofs.from_holder.Statement.{statement}
-use Rattle.arbiter_releases.proofs.from_holder.Tie as tie
+use Rattle.arbiter_holder.proofs.from_holder.Statement.{statement}
+use Rattle.arbiter_holder.proofs.from_holder.Tie as tie
 
 returns : tie.Need-returns
 unfolding fromHolder
