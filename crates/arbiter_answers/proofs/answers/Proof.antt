@@ -5,9 +5,9 @@ use borrow.Author.Tests.{eq-eqb, ne-eqb}
 use borrow.Author.Needs.{needs}
 use Rattle.model.specs.Arbiter.{headOf, answers}
 use Rattle.event_effects.proofs.Effects.{sent-one, sent-more}
-use Rattle.arbiter_requests.proofs.Former.{fail-former-most}
-use Rattle.arbiter_requests.proofs.answers.Statement.{statement}
-use Rattle.arbiter_requests.proofs.answers.Tie as tie
+use Rattle.arbiter_answers.proofs.Former.{fail-former-most}
+use Rattle.arbiter_answers.proofs.answers.Statement.{statement}
+use Rattle.arbiter_answers.proofs.answers.Tie as tie
 
 head-requires : tie.Need-head-requires
 head-requires c κs = search needs

@@ -4,8 +4,8 @@ use borrow.Author.Tests.{eq-eqb, ne-eqb, not-true, not-false}
 use borrow.Author.Needs.{needs}
 use Rattle.model.specs.Arbiter.{failFormer}
 use Rattle.event_effects.proofs.Effects.{sent-none, sent-one}
-use Rattle.arbiter_requests.proofs.fail_former.Statement.{statement}
-use Rattle.arbiter_requests.proofs.fail_former.Tie as tie
+use Rattle.arbiter_answers.proofs.fail_former.Statement.{statement}
+use Rattle.arbiter_answers.proofs.fail_former.Tie as tie
 
 returns : tie.Need-returns
 unfolding failFormer

@@ -2,8 +2,8 @@
 use mathlib.Core.Path.{sym, _∙_}
 use borrow.Author.Needs.{needs}
 use Rattle.model.specs.Arbiter.{inquireOrFail}
-use Rattle.arbiter_requests.proofs.inquire_or_fail.Statement.{statement}
-use Rattle.arbiter_requests.proofs.inquire_or_fail.Tie as tie
+use Rattle.arbiter_answers.proofs.inquire_or_fail.Statement.{statement}
+use Rattle.arbiter_answers.proofs.inquire_or_fail.Tie as tie
 
 before-holder-requires : tie.Need-before-holder-requires
 before-holder-requires c κs = search needs
