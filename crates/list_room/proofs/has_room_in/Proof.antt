@@ -2,9 +2,9 @@
 use native.Mathlib.Omega.{arith}
 use denote.Ref.{now}
 use borrow.Author.Needs.{needs}
-use Rattle.list_exchange.proofs.Zeros.{without-short, without-all}
-use Rattle.list_exchange.proofs.has_room_in.Statement.{statement}
-use Rattle.list_exchange.proofs.has_room_in.Tie as tie
+use Rattle.list_room.proofs.Without.{without-short, without-all}
+use Rattle.list_room.proofs.has_room_in.Statement.{statement}
+use Rattle.list_room.proofs.has_room_in.Tie as tie
 
 sub-result : tie.Need-sub-result
 sub-result c = search needs

@@ -4,9 +4,9 @@ use denote.Ref.{now}
 use lib.ListN.{length}
 use borrow.Author.Needs.{needs}
 use Rattle.rig.specs.Limits.{messageLimit}
-use Rattle.list_exchange.proofs.has_room.Statement.{statement}
-use Rattle.list_exchange.proofs.has_room.Tie as tie
-use Rattle.list_exchange.proofs.has_room_in.Reads as has-room-in-reads
+use Rattle.list_room.proofs.has_room.Statement.{statement}
+use Rattle.list_room.proofs.has_room.Tie as tie
+use Rattle.list_room.proofs.has_room_in.Reads as has-room-in-reads
 
 has-room-in-requires : tie.Need-has-room-in-requires
 has-room-in-requires c κs = search needs
