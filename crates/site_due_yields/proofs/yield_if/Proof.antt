@@ -1,14 +1,13 @@
 -- `yield_if`: whether the site must be yielded.
-use mathlib.Core.Path.{refl, sym, _∙_}
+use mathlib.Core.Path.{sym, _∙_}
 use denote.Ref.{now}
 use borrow.Author.Tests.{not-true, not-false}
 use borrow.Author.Needs.{needs}
-use Rattle.event_effects.proofs.Effects.{sent-one, carries-sent}
-use Rattle.site_yields.specs.Entries.{entries}
-use Rattle.site_yields.proofs.Does.{did-only}
-use Rattle.site_yields.proofs.Turn.{passed, gone}
-use Rattle.site_yields.proofs.yield_if.Statement.{statement}
-use Rattle.site_yields.proofs.yield_if.Tie as tie
+use Rattle.event_effects.proofs.Effects.{sent-none, sent-one, carries-sent}
+use Rattle.site_due_yields.specs.Entries.{entries}
+use Rattle.site_due_yields.proofs.Turn.{passed, gone}
+use Rattle.site_due_yields.proofs.yield_if.Statement.{statement}
+use Rattle.site_due_yields.proofs.yield_if.Tie as tie
 
 add-j : tie.Need-add-j
 add-j c = search needs
@@ -32,7 +31,7 @@ returns : tie.Need-returns
 returns c d number members =
     let a = c .before .before .before .before .args in
     let must = c .before .must-yield .ensures in
-    rw (passed d (entries (now (a .held)) (now (a .heir)) (now (a .inquired))) (a .i) members (sym must ∙ not-true _ (c .if1 .taken))) (did-only _ _ refl)
+    rw (passed d (entries (now (a .held)) (now (a .heir)) (now (a .inquired))) (a .i) members (sym must ∙ not-true _ (c .if1 .taken))) (carries-sent sent-none)
 
 mul-held : tie.Need-mul-held
 mul-held c = search needs

@@ -12,7 +12,7 @@ use Rattle.model.specs.Desk.{effect}
 use Rattle.model.specs.Sets.{member}
 use Rattle.model.specs.Site.{failedSet, mustYield, yielded, yieldedIf}
 use Rattle.model.specs.Tables.{at, put}
-use Rattle.site_yields.specs.Entries.{Entries, entries, failedWith}
+use Rattle.site_due_yields.specs.Entries.{Entries, entries, failedWith}
 
 -- site i + 1 must be yielded
 abbrev pub mustHere : ℕ → Entries → ℕ → Bool

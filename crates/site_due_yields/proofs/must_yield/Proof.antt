@@ -2,8 +2,8 @@
 use mathlib.Core.Path.{sym, _∙_}
 use borrow.Author.Tests.{ne-eqb}
 use borrow.Author.Needs.{needs}
-use Rattle.site_yields.proofs.must_yield.Statement.{statement}
-use Rattle.site_yields.proofs.must_yield.Tie as tie
+use Rattle.site_due_yields.proofs.must_yield.Statement.{statement}
+use Rattle.site_due_yields.proofs.must_yield.Tie as tie
 
 is-member-requires : tie.Need-is-member-requires
 is-member-requires c κs = search needs
