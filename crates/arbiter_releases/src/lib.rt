@@ -1,17 +1,18 @@
-// What an arbiter does with a release or a yield, as model/specs/Arbiter defines it. Inner calls: the desk is that of the arbiter's own
-// site, and messages go to `out`, behind the first `count` rows.
+// What an arbiter does with a release, as model/specs/Arbiter defines it. An inner call: the desk is that of the arbiter's own site, and
+// messages go to `out`, behind the first `count` rows.
 use arbiter_grants::grant_head;
 use arbiter_grants::held_by;
 use arbiter_heirs::heir_takes_over;
+use arbiter_holder::from_holder;
+use arbiter_holder::is_early;
 use arbiter_queue::queued_at;
 use arbiter_queue::requeued;
 use event_effects::Acted;
 use list_rows::Row;
 use rig::Desk;
-ghost use mathlib.Core.Path.{_≡_};
-ghost use Prim.Native.Nat.{_+_, _^_, _≤_, _<_};
+ghost use Prim.Native.Nat.{_≤_};
 ghost use Rattle.rig.specs.Limits.{siteLimit, SiteNumber};
-ghost use Rattle.model.specs.Arbiter.{holderReleases, fromHolder, isEarly, earlyRelease, onRelease, onYield};
+ghost use Rattle.model.specs.Arbiter.{holderReleases, earlyRelease, onRelease};
 ghost use Rattle.event_effects.specs.Effects.{CarriesOut};
 ghost use Rattle.arbiter_grants.specs.Needs.{Room};
 
@@ -30,30 +31,6 @@ fn holder_releases(d: Desk, out: &mut [Row], count: usize, x: u64) -> Acted
         };
     }
     heir_takes_over(d, out, count, x)
-}
-
-// Whether the message is from the holder, with its grant number.
-fn from_holder(d: Desk, k: u64, n: u64) -> bool
-    ensures { λ r. ⌜ r ≡ fromHolder d k n ⌝ }
-{
-    if n != d.arbiter.grant {
-        return false;
-    }
-    k == d.arbiter.holder
-}
-
-// Whether a release came before the arbiter knew that k holds the permission.
-fn is_early(d: Desk, k: u64, x: u64, n: u64) -> bool
-    requires { ⌜ SiteNumber k × (d .arbiter .grant + 1 < 2 ^ 64) ⌝ }
-    ensures { λ r. ⌜ r ≡ isEarly d k x n ⌝ }
-{
-    if n != d.arbiter.grant + 1 {
-        return false;
-    }
-    if x != 0 {
-        return false;
-    }
-    queued_at(&d.queued, k) != 0
 }
 
 // The release of queued site k, which got the permission from the holder.
@@ -80,19 +57,4 @@ pub fn on_release(d: Desk, out: &mut [Row], count: usize, k: u64, x: u64, n: u64
         desk: d,
         count: count,
     }
-}
-
-// An inner call: a yield from k with number n.
-pub fn on_yield(d: Desk, out: &mut [Row], count: usize, k: u64, n: u64) -> Acted
-    requires { ⌜ Room d 1 2 count (now out) × SiteNumber k ⌝ }
-    ensures { λ r. ⌜ CarriesOut (onYield d k n) count (now (out .entry)) (now (out .exit)) r ⌝ }
-{
-    if !from_holder(d, k, n) {
-        return Acted {
-            desk: d,
-            count: count,
-        };
-    }
-    let u = requeued(d, k, d.arbiter.seq);
-    grant_head(held_by(u, d.arbiter.grant, 0, 0), out, count)
 }

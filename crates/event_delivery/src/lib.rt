@@ -1,15 +1,15 @@
 // What a site does with a message that is delivered to it: the rule of the message's kind.
 use arbiter_releases::on_release;
-use arbiter_releases::on_yield;
 use arbiter_requests::on_request;
+use arbiter_yields::on_yield;
 use event_effects::Acted;
 use list_rows::Row;
 use rig::Desk;
 use rig::Message;
 use site_notices::on_fail;
 use site_notices::on_inquire;
-use site_notices::on_transfer;
 use site_replies::on_reply;
+use site_transfers::on_transfer;
 ghost use Rattle.model.specs.Deliver.{delivered};
 ghost use Rattle.event_effects.specs.Effects.{CarriesOut};
 ghost use Rattle.event_delivery.specs.Needs.{Fits};

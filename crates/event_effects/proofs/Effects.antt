@@ -1,6 +1,7 @@
 -- Messages sent one after the other.
-use Prim.Native.Nat.{ℕ, _+_}
+use Prim.Native.Nat.{ℕ, _+_, _≤_}
 use mathlib.Core.Path.{_≡_, refl, sym, _∙_}
+use mathlib.Core.Bool.{Bool, true, false, cond}
 use mathlib.Core.List.{List, [], _∷_, _++_, append-assoc, append-nil, map-append}
 use native.Mathlib.Omega.{arith}
 use lib.ListN.{length, drop, length-append}
@@ -10,6 +11,11 @@ use Rattle.rig.specs.declared.Message.{Message}
 use Rattle.model.specs.Desk.{effect}
 use Rattle.list_rows.specs.Rows.{Appends}
 use Rattle.event_effects.specs.Effects.{CarriesOut}
+
+-- messages that a test may leave out are at most as many
+pub cond-short : (t : Bool) (a : List Message) (k : ℕ) → length a ≤ k → length (cond t a []) ≤ k
+cond-short true a k h = h
+cond-short false a k h = omega arith
 
 -- rows that are the same from one place on are the same from a later place on
 still-behind : (k m r : ℕ) (xs ys : List (List ℕ)) → r ≡ k + m → drop k xs ≡ drop k ys → drop r xs ≡ drop r ys

@@ -14,7 +14,7 @@ use Rattle.model.specs.Event.{possible, judged}
 use Rattle.model.proofs.Shaped.{within}
 use Rattle.list_rows.specs.Rows.{rowOf, messageOf}
 use Rattle.list_rows.proofs.Rows.{messages-of-rows}
-use Rattle.list_exchange.proofs.Zeros.{without-none}
+use Rattle.list_room.proofs.Without.{without-none}
 use Rattle.event_effects.specs.declared.Acted.{Acted}
 use Rattle.event_effects.specs.Effects.{CarriesOut}
 use Rattle.event_storing.specs.Leaves.{messagesIn, effectOf, staying}

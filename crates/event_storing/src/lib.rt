@@ -3,7 +3,7 @@ use event_desks::store_rows;
 use event_effects::Acted;
 use event_limits::over_limits;
 use list_exchange::exchange;
-use list_exchange::has_room;
+use list_room::has_room;
 use list_rows::Row;
 use list_rows::Rows;
 use rig::Arbiter;

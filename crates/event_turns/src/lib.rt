@@ -47,9 +47,9 @@ fn turn_rule(asks: bool, d: Desk, out: &mut [Row]) -> Acted
     ensures { λ r. ⌜ CarriesOut (turnEffect asks d) 0 (now (out .entry)) (now (out .exit)) r ⌝ }
 {
     if asks {
-        return site_ask_leave::ask(d, out, 0);
+        return site_asks::ask(d, out, 0);
     }
-    site_ask_leave::leave(d, out, 0)
+    site_leaves::leave(d, out, 0)
 }
 
 // An inner call: site s asks, or leaves.

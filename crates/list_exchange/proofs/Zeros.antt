@@ -1,27 +1,13 @@
 -- Rows that are zeros from a place on stay so where rows are taken off or put behind.
 use Prim.Native.Nat.{ℕ, suc, _+_, _-_, _≤_, _<_}
 use mathlib.Core.Path.{_≡_, sym, ap, _∙_}
-use mathlib.Core.List.{List, _∷_, _++_, append-nil}
+use mathlib.Core.List.{List, _∷_, _++_}
 use native.Mathlib.Omega.{arith}
-use lib.ListN.{length, take, drop, replicate, length-take, length-drop, length-append, take-append-drop, drop-of-length-le, length-replicate, replicate-append-replicate}
-use lib.Seq.{length-take-le, take-all, take-at, drop-at, drop-drop, paste, length-paste, take-paste, drop-paste}
+use lib.ListN.{length, take, drop, replicate, length-take, length-drop, length-append, take-append-drop, length-replicate, replicate-append-replicate}
+use lib.Seq.{length-take-le, take-at, drop-at, drop-drop, paste, length-paste, take-paste, drop-paste}
 use Rattle.list_rows.specs.Rows.{zeroRow, cleared, ZeroPast, without}
+use Rattle.list_room.proofs.Without.{without-short, without-none, without-all}
 use Rattle.list_exchange.specs.Exchange.{takenOut, Exchanged}
-
--- how many rows stay once the one at a place is taken off
-pub without-short : (n place : ℕ) (rows : List (List ℕ)) → place < n → n ≤ length rows → length (without place (take n rows)) ≡ n - 1
-without-short n place rows g h = simp (length-append, length-take, length-drop) (omega arith)
-
--- none stands at a place behind the last
-pub without-none : (n : ℕ) (rows : List (List ℕ)) → without n (take n rows) ≡ take n rows
-without-none n rows =
-    let l = length-take n rows in
-    ap (λ (r : List (List ℕ)). take n (take n rows) ++ r) (drop-of-length-le (take n rows) {i = suc n} (omega arith))
-    ∙ append-nil (take n (take n rows))
-    ∙ take-all n (take n rows) (omega arith)
-
-pub without-all : (n place : ℕ) (rows : List (List ℕ)) → place ≡ n → n ≤ length rows → length (without place (take n rows)) ≡ n
-without-all n place rows e h = rw (e, without-none n rows) (length-take-le n rows h)
 
 -- after one of the first n is taken off, the first n - 1 rows are the others
 pub taken-out-rest : (n place : ℕ) (rows : List (List ℕ)) → place < n → n ≤ length rows → take (n - 1) (takenOut n place rows) ≡ without place (take n rows)

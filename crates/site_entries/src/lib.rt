@@ -9,8 +9,21 @@ ghost use mathlib.Core.Bool.{not, _||_, cond};
 ghost use Prim.Native.Nat.{_≤_};
 ghost use lib.Dec.{eqb};
 ghost use Rattle.rig.specs.Limits.{siteLimit, SiteNumber};
+ghost use Rattle.model.specs.Desk.{withSite, withoutEntries};
 ghost use Rattle.model.specs.Sets.{member};
 ghost use Rattle.model.specs.Site.{failedSet, allHeld, entered, taken, remembered};
+
+// The desk with no entries, and with the given site.
+pub fn cleared(d: Desk, site: Site) -> Desk
+    ensures { λ r. ⌜ r ≡ withSite (withoutEntries d) site ⌝ }
+{
+    let mut u = d;
+    u.site = site;
+    u.held = [0; Rig::SITES];
+    u.heir = [0; Rig::SITES];
+    u.inquired = [0; Rig::SITES];
+    u
+}
 
 // The failed mark is set.
 pub fn failed_set(d: Desk) -> Desk

@@ -1,10 +1,10 @@
-// What a site does with an inquire, a fail or a transfer.
+// What a site does with an inquire or a fail.
 use event_effects::Acted;
 use list_rows::Row;
 use rig::Desk;
 ghost use Prim.Native.Nat.{_<_, _≤_, _+_};
 ghost use lib.ListN.{length};
-ghost use Rattle.model.specs.Site.{yieldedOrRemembered, onInquire, onFail, onTransfer};
+ghost use Rattle.model.specs.Site.{yieldedOrRemembered, onInquire, onFail};
 ghost use Rattle.event_effects.specs.Effects.{CarriesOut};
 ghost use Rattle.rig.specs.Limits.{siteLimit, SiteNumber};
 
@@ -66,25 +66,4 @@ pub fn on_fail(d: Desk, out: &mut [Row], count: usize) -> Acted
         };
     }
     site_yields::yield_members(d, out, count)
-}
-
-// An inner call: a transfer from j that names x, with number n.
-pub fn on_transfer(d: Desk, j: u64, x: u64, n: u64, out: &mut [Row], count: usize) -> Acted
-    requires { ⌜ SiteNumber j ⌝ }
-    ensures { λ r. ⌜ CarriesOut (onTransfer d j x n) count (now (out .entry)) (now (out .exit)) r ⌝ }
-{
-    let i = (j - 1) as usize;
-    let g = d.held[i];
-    if n == g {
-        let mut e = d;
-        e.heir[i] = x;
-        return Acted {
-            desk: e,
-            count: count,
-        };
-    }
-    Acted {
-        desk: d,
-        count: count,
-    }
 }

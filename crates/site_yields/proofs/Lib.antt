@@ -1,3 +1,2 @@
--- Laws of what is done on a desk, and of one turn over its rows.
+-- Laws of what is done on a desk.
 pub mod Does
-pub mod Turn

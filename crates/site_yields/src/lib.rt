@@ -3,17 +3,12 @@ use event_effects::Acted;
 use list_rows::Row;
 use rig::Desk;
 use rig::Message;
-use rig::Rig;
-ghost use mathlib.Core.Path.{_≡_};
-ghost use mathlib.Core.Bool.{not, _&&_};
+use site_due_yields::yield_if;
 ghost use Prim.Native.Nat.{_<_, _≤_, _+_};
-ghost use lib.Dec.{eqb};
 ghost use lib.ListN.{length};
-ghost use Rattle.model.specs.Sets.{member};
 ghost use Rattle.model.specs.Site.{failedSet, yielded, yieldedUpTo};
 ghost use Rattle.event_effects.specs.Effects.{CarriesOut};
 ghost use Rattle.rig.specs.Limits.{siteLimit, SiteNumber};
-ghost use Rattle.site_yields.specs.Entries.{before, after, YieldsIf};
 
 // An inner call: the site yields arbiter j.
 pub fn yield_member(d: Desk, j: u64, out: &mut [Row], count: usize) -> Acted
@@ -28,38 +23,6 @@ pub fn yield_member(d: Desk, j: u64, out: &mut [Row], count: usize) -> Acted
     e.heir[i] = 0;
     e.inquired[i] = 0;
     Acted { desk: e, count: n }
-}
-
-// Site j is a member that is held with a remembered inquire: g is the number held, q the inquire's.
-fn must_yield(members: u64, j: u64, g: u64, q: u64) -> bool
-    ensures { λ r. ⌜ r ≡ member members j && (not (eqb g 0) && not (eqb q 0)) ⌝ }
-{
-    rig_reads::is_member(members, j) && (g != 0 && q != 0)
-}
-
-// One turn of `yield_members`: site i + 1, whose entries stand at index i, is yielded if it must be.
-fn yield_if(
-    number: u64,
-    members: u64,
-    held: &mut [u64; Rig::SITES],
-    heir: &mut [u64; Rig::SITES],
-    inquired: &mut [u64; Rig::SITES],
-    i: usize,
-    out: &mut [Row],
-    count: usize,
-) -> usize
-    requires { ⌜ (i < siteLimit) × (count < length (now out)) ⌝ }
-    ensures { λ r. ⌜ YieldsIf number members (i + 1) (before held heir inquired) (after held heir inquired) count (now (out .entry)) (now (out .exit)) r ⌝ }
-{
-    let j = i as u64 + 1;
-    let g = held[i];
-    if !must_yield(members, j, g, inquired[i]) {
-        return count;
-    }
-    held[i] = 0;
-    heir[i] = 0;
-    inquired[i] = 0;
-    list_rows::append(out, count, Message::yielding(number, j, g))
 }
 
 // An inner call: failed is set, and every held member with a remembered inquire is yielded, ascending.

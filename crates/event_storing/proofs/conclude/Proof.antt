@@ -12,7 +12,7 @@ use Rattle.event_desks.proofs.store_rows.Reads as store-rows-reads
 use Rattle.event_limits.proofs.over_limits.Reads as over-limits-reads
 use Rattle.event_storing.proofs.Done.refused.Reads as refused-reads
 use Rattle.list_exchange.proofs.exchange.Reads as exchange-reads
-use Rattle.list_exchange.proofs.has_room.Reads as has-room-reads
+use Rattle.list_room.proofs.has_room.Reads as has-room-reads
 
 over-limits-requires : tie.Need-over-limits-requires
 over-limits-requires c κs = search needs

@@ -3,8 +3,8 @@ use native.Mathlib.Omega.{arith}
 use borrow.Author.Needs.{needs}
 use Rattle.event_turns.proofs.turn_rule.Statement.{statement}
 use Rattle.event_turns.proofs.turn_rule.Tie as tie
-use Rattle.site_ask_leave.proofs.ask.Reads as ask-reads
-use Rattle.site_ask_leave.proofs.leave.Reads as leave-reads
+use Rattle.site_asks.proofs.ask.Reads as ask-reads
+use Rattle.site_leaves.proofs.leave.Reads as leave-reads
 
 ask-requires : tie.Need-ask-requires
 ask-requires c κs = search needs

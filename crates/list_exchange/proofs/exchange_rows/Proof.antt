@@ -5,7 +5,8 @@ use denote.Ref.{now}
 use lib.ListN.{length}
 use borrow.Author.Needs.{needs}
 use Rattle.list_exchange.specs.Exchange.{takenOut}
-use Rattle.list_exchange.proofs.Zeros.{without-short, without-all, taken-out-long, exchanged-off, exchanged-on}
+use Rattle.list_room.proofs.Without.{without-short, without-all}
+use Rattle.list_exchange.proofs.Zeros.{taken-out-long, exchanged-off, exchanged-on}
 use Rattle.list_exchange.proofs.exchange_rows.Statement.{statement}
 use Rattle.list_exchange.proofs.exchange_rows.Tie as tie
 use Rattle.list_exchange.proofs.append_all.Reads as append-all-reads

@@ -8,7 +8,7 @@ use lib.ListN.{length}
 use borrow.Author.Needs.{needs}
 use Rattle.model.specs.Site.{failedSet, yieldedIf, yieldedUpTo}
 use Rattle.event_effects.specs.Effects.{CarriesOut}
-use Rattle.site_yields.specs.Entries.{entries, failedWith}
+use Rattle.site_due_yields.specs.Entries.{entries, failedWith}
 use Rattle.site_yields.proofs.Does.{did-only, did-then, up-to-short}
 use Rattle.site_yields.proofs.yield_members.Statement.{statement}
 use Rattle.site_yields.proofs.yield_members.Tie as tie

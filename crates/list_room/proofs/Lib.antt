@@ -1,0 +1,2 @@
+-- How many rows stay once one is taken off.
+pub mod Without

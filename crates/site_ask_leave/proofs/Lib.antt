@@ -1,2 +1,0 @@
--- Laws of messages sent one after another.
-pub mod Sends

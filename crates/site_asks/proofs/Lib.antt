@@ -1,0 +1,2 @@
+-- How many messages an ask sends.
+pub mod Sends

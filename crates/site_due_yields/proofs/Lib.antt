@@ -1,0 +1,2 @@
+-- One turn over the rows of a failed site.
+pub mod Turn

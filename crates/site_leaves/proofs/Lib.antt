@@ -1,0 +1,2 @@
+-- How many messages a leave sends.
+pub mod Sends
