@@ -48,8 +48,8 @@ fn put_decimal(page: &mut [u8], at: usize, n: u64) -> usize
     end
 }
 
-// A word from place `at` on; answers the place behind it.
-fn put_word(page: &mut [u8], at: usize, word: &[u8]) -> usize
+// An inner call: a word from place `at` on; answers the place behind it.
+pub fn put_word(page: &mut [u8], at: usize, word: &[u8]) -> usize
     requires { ⌜ at + length (now word) ≤ length (now page) ⌝ }
     ensures { λ r. ⌜ Wrote (now (word .entry)) at (now (page .entry)) (now (page .exit)) r ⌝ }
 {
