@@ -1,55 +1,62 @@
 -- A part of a text read line by line: one part behind another, and one line more.
 use Prim.Native.Nat.{ℕ, suc, _+_, _-_, _^_, _≤_, _<_}
-use mathlib.Core.List.{List, [], _∷_, _++_, append-assoc, append-nil}
+use mathlib.Core.List.{List, [], _∷_, _++_, append-nil}
 use mathlib.Core.Option.{Option, none, some}
 use mathlib.Core.Path.{_≡_, refl, sym, ap, _∙_}
 use native.Mathlib.Omega.{arith}
-use lib.Dec.{eqb}
+use borrow.Author.Tests.{leb-true, leb-false, eqb-true}
+use lib.Dec.{eqb, leb}
 use lib.ListN.{length, take, drop, length-drop}
 use lib.Seq.{take-add, take-length, drop-drop, length-sets}
 use Rattle.basics.proofs.Basics.{by-bool}
 use Rattle.bytes.specs.Bytes.{indexAfter, indexOf, slice}
 use Rattle.rig.specs.declared.Event.{Event}
-use Rattle.player_grammar.specs.Grammar.{meaningOf}
+use Rattle.player_grammar.specs.Grammar.{lineLimit, meaningOf}
 use Rattle.player_printing.specs.Printing.{pageLength, Printed}
 use Rattle.player_printing.specs.Wrote.{Wrote}
 use Rattle.player_printing.proofs.Lines.{printed-part}
 use Rattle.player_printing.proofs.Stores.{wrote-more}
 use Rattle.player_text.specs.Player.{Text, Outcome, outcome, eventIn, onLine}
-use Rattle.player_events.specs.Parts.{Part, reads}
+use Rattle.player_parts.specs.Parts.{Part, saidBefore, reads}
+use Rattle.player_parts.proofs.Loop.{lineEnd, reads-more, reads-line, reads-long}
 use Rattle.player_events.specs.Lines.{between, LineTo, lineTo, Finds}
 use Rattle.player_events.specs.Stretches.{Plays}
 
--- one part behind another
-abbrev behind : Part → Part → Part
-behind r s = record { said = r .said ++ s .said; next = s .next; line = s .line }
-
-reads-more : (t : Text) (line a b : List ℕ) → reads t line (a ++ b) ≡ behind (reads t line a) (reads (reads t line a .next) (reads t line a .line) b)
-unfolding reads
-reads-more t line [] b = refl
-reads-more t line (x ∷ a) b =
-    let o = onLine t line in
-    by-bool (eqb x 10)
-    (λ e. rw (e, reads-more (o .next) [] a b, append-assoc))
-    (λ e. rw e (reads-more t (line ++ (x ∷ [])) a b))
-
--- a whole line
+-- A whole line of any length: one that is too long is judged before its end, and the run is over.
 abbrev ofLine : Outcome → Part
 ofLine o = record { said = o .said; next = o .next; line = [] }
 
-reads-line : (t : Text) (line bytes : List ℕ) → indexOf 10 bytes < length bytes
-    → reads t line (take (suc (indexOf 10 bytes)) bytes) ≡ ofLine (onLine t (line ++ take (indexOf 10 bytes) bytes))
-unfolding reads indexOf indexAfter
-reads-line t line [] h = absurd (omega arith)
-reads-line t line (b ∷ bs) h =
+whole-line : (p : Text) (ls : List ℕ) → length ls ≤ lineEnd ls → reads p [] (ls ++ 10 ∷ []) ≡ ofLine (onLine p ls)
+unfolding reads
+whole-line p ls n =
+    by-bool (leb (length ls) lineLimit)
+    (λ u. reads-line p [] ls [] n (leb-true _ _ u) ∙ rw (append-nil (onLine p ls .said)))
+    (λ u.
+    let r = reads-long p [] ls (10 ∷ []) n (omega arith) (leb-false _ _ u) in
+    let e : reads p [] (ls ++ 10 ∷ []) .line ≡ [] = ap (λ (x : Part). x .line) (reads-more p [] ls (10 ∷ [])) in
+    λ j. record { said = r .0 j; next = r .1 j; line = e j })
+
+-- the bytes up to the first byte 10, and with it
+no-end : (bs : List ℕ) → length (take (lineEnd bs) bs) ≤ lineEnd (take (lineEnd bs) bs)
+unfolding indexOf indexAfter
+no-end [] = omega arith
+no-end (b ∷ bs) =
     by-bool (eqb b 10)
-    (λ e. rw (e, append-nil line, append-nil (onLine t line .said)))
-    (λ e. let g : suc (indexOf 10 bs) < suc (length bs) = rw e at h in
-    rw e (reads-line t (line ++ (b ∷ [])) bs (omega arith) ∙ rw append-assoc))
+    (λ t. rw t (omega arith))
+    (λ t. rw t (rw t (omega (arith, no-end bs))))
+
+with-end : (bs : List ℕ) → lineEnd bs < length bs → take (suc (lineEnd bs)) bs ≡ take (lineEnd bs) bs ++ 10 ∷ []
+unfolding indexOf indexAfter
+with-end [] h = absurd (omega arith)
+with-end (b ∷ bs) h =
+    by-bool (eqb b 10)
+    (λ t. rw t (ap (λ (x : ℕ). x ∷ []) (eqb-true b 10 t)))
+    (λ t. let g : suc (lineEnd bs) < suc (length bs) = rw t at h in
+    rw t (ap (λ (l : List ℕ). b ∷ l) (with-end bs (omega arith))))
 
 module _ {end read : ℕ} {bytes : List ℕ} (l : LineTo end read bytes) where
   -- the bytes up to the end of a line, and the line
-  more-bytes : (from : ℕ) → from ≤ read → between from (end + 1) bytes ≡ between from read bytes ++ take (suc (indexOf 10 (drop read bytes))) (drop read bytes)
+  more-bytes : (from : ℕ) → from ≤ read → between from (end + 1) bytes ≡ between from read bytes ++ take (suc (lineEnd (drop read bytes))) (drop read bytes)
   more-bytes from h =
       let first = l .first in
       let n : end + 1 - from ≡ (read - from) + suc (indexOf 10 (drop read bytes)) = omega arith in
@@ -79,8 +86,9 @@ module _ {end read : ℕ} {bytes : List ℕ} (l : LineTo end read bytes) where
       let first = l .first in
       let within = l .within in
       let inside : indexOf 10 rest < length rest = rw length-drop (omega arith) in
-      let same : reads t [] (between from (end + 1) bytes) ≡ behind (reads t [] xs) (ofLine (outcome said v)) =
-      rw (more-bytes from h, reads-more t [] xs (take (suc (indexOf 10 rest)) rest), p .whole, ← p .known, reads-line u [] rest inside, ← line-bytes, e) in
+      let line = take (lineEnd rest) rest in
+      let same : reads t [] (between from (end + 1) bytes) ≡ saidBefore (reads t [] xs .said) (ofLine (outcome said v)) =
+      rw (more-bytes from h, with-end rest inside, reads-more t [] xs (line ++ 10 ∷ []), p .whole, ← p .known, whole-line u line (no-end rest), ← line-bytes, e) in
       record {
         whole = ap (λ (r : Part). r .line) same;
         known = sym (ap (λ (r : Part). r .next) same);

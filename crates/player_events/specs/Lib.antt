@@ -1,4 +1,3 @@
-pub mod Parts
 pub mod Lines
 pub mod Kinds
 pub mod Stretches

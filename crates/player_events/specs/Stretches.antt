@@ -9,12 +9,12 @@ use Rattle.rig.specs.declared.Rig.{Rig}
 use Rattle.list_rows.specs.State.{Lent}
 use Rattle.player_printing.specs.Printing.{stopLine, pageLength}
 use Rattle.player_printing.specs.Wrote.{Wrote}
+use Rattle.player_parts.specs.Parts.{reads}
 use Rattle.player_text.specs.declared.Player.{Player}
 use Rattle.player_text.specs.declared.Stage.the-variants.{Events, Over}
 use Rattle.player_text.specs.Player.{Text, counted}
 use Rattle.player_text.specs.Calls.{text, over, PlayerFits}
 use Rattle.player_events.specs.declared.Stretch.{Stretch}
-use Rattle.player_events.specs.Parts.{reads}
 use Rattle.player_events.specs.Lines.{between, NoLine}
 
 -- the player p, among its events, with other places, another rig and another count
