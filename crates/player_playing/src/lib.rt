@@ -25,6 +25,8 @@ pub struct Playing {
     held: usize,
 }
 
+// Two fields, and a state made of its parts. Only these three functions read an array of arrays in a state or write one out as a
+// literal: Rattle does not walk either, and their proofs are by hand.
 fn tables_of(s: Playing) -> Tables
     ensures { λ r. ⌜ r ≡ s .tables ⌝ }
 {

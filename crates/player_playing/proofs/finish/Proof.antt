@@ -1,11 +1,9 @@
 -- `finish`: the player's end, with the line that is held.
-use Prim.Native.Nat.{_≤_}
-use mathlib.Core.Path.{_≡_, sym, _∙_}
+use mathlib.Core.Path.{sym}
 use native.Mathlib.Omega.{arith}
-use lib.ListN.{length, length-map}
 use lib.Seq.{length-take-le}
 use Rattle.list_rows.specs.State.{stored}
-use Rattle.player_playing.specs.State.{lineRoom}
+use Rattle.player_playing.proofs.Fields.{line-long}
 use borrow.Author.Needs.{needs}
 use Rattle.player_playing.proofs.finish.Statement.{statement}
 use Rattle.player_playing.proofs.finish.Tie as tie
@@ -14,12 +12,12 @@ use Rattle.player_lines.proofs.finish.Reads as finish-reads
 array-share-prefix-line : tie.Need-array-share-prefix-line
 array-share-prefix-line c =
     let d = c .before .before .before in
-    let s = d .args .s in
-    let long : length (s .line) ≡ lineRoom = sym (length-map (s .line) _) ∙ d .good .0 .1 .1 .1 .1 .1 .0 .1 .0 .1 in
-    omega (arith, d .pre .room)
+    omega (arith, d .pre .room, line-long (d .args .s) _ (d .good .0))
 
 slice-aggregate-finish : tie.Need-slice-aggregate-finish
-slice-aggregate-finish c = sym (length-take-le _ _ (array-share-prefix-line (c .before)))
+slice-aggregate-finish c =
+    let s = c .before .before .before .before .args .s in
+    sym (length-take-le _ (s .line) (array-share-prefix-line (c .before)))
 
 finish-requires : tie.Need-finish-requires
 finish-requires c κs = search needs

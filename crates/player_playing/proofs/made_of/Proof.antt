@@ -13,7 +13,7 @@ use prog.Wp.{Heap, Calls, Loops, WpFn, Tables}
 use ghost.Atoms.{Atoms}
 use contract.Monad.{Fun}
 use contract.Running.{givenOf, tables, tablesOf}
-use types.Kit.{Given, ‵, ⋆, _$_, _∵_, !, qed, by, move, keep, fjoin, suffices, frame, done}
+use types.Kit.{Given, ‵, _$_, _∵_, !, qed, by, move, keep, fjoin, suffices, frame, done}
 use types.Part.{agg}
 use types.Run.{look, init, forget, stop, from, load, and-then, no-more, assigns, returns, enter, alloc1, alloc0, params1, pass1, pass0, free1, free0}
 use sound.WpLaws.{WpFn-mono}
@@ -32,7 +32,7 @@ use denote.Triple.Table.{entered}
 use denote.Triple.Walked.{says, Stays, stay-dropped, walkOf, AllGo, Walks, ends-at, walked, goes-dropped, walk-meets}
 use Rattle.player_text.specs.declared.Player.{Player}
 use Rattle.player_playing.specs.declared.Playing.{Playing}
-use Rattle.player_playing.proofs.Fields.{vals, val, same, same₂, same₃, tells-like, is-like, Tabs, Rows, Bytes, tabs-lawful, rows-lawful, bytes-lawful}
+use Rattle.player_playing.proofs.Fields.{vals, val, same, same₂, same₃, tells-like, is-like, Tabs, Rows, Bytes}
 use Rattle.player_text.proofs.Player as Y
 use Rattle.player_text.proofs.Player.Laws as Y′
 use Rattle.player_playing.proofs.Playing as P
@@ -100,8 +100,8 @@ module _ {M : Type 1} (𝓤 : URA M) (H : Heap 𝓤) (A : Atoms 𝓤) (W : Given
     walk =
         qed W (‵ ftrue ∷ ‵ (owns (Y.the-row ∷ Tabs ∷ Rows ∷ Bytes ∷ usize ∷ []) x at) ∷ []) ∵ enter ! C Λ code.function passed _ $
         alloc1 ! (λ l₀. alloc1 ! (λ l₁. alloc1 ! (λ l₂. alloc1 ! (λ l₃. alloc1 ! (λ l₄. alloc1 ! (λ l₅. alloc0 ! $ params1 ! $
-        pass1 ! (init ! 8 refl (LL.lawful Y.the-type Y′.the-laws 𝓤 H A W .typed p (player-vals p) gp .0)) $ pass1 ! (init ! 6 refl (tabs-lawful 𝓤 H A W .typed ts (tabs-vals ts) gt .0)) $
-        pass1 ! (init ! 4 refl (rows-lawful 𝓤 H A W .typed rs (rows-vals rs) gr .0)) $ pass1 ! (init ! 2 refl (bytes-lawful 𝓤 H A W .typed bs (bytes-vals bs) gb .0)) $ pass1 ! (init ! 0 refl (tt, record { fits = gn })) $ pass0 ! $
+        pass1 ! (init ! 8 refl (LL.lawful Y.the-type Y′.the-laws 𝓤 H A W .typed p (player-vals p) gp .0)) $ pass1 ! (init ! 6 refl (P′.the-laws .1 .0 .lawful 𝓤 H A W .typed ts (tabs-vals ts) gt .0)) $
+        pass1 ! (init ! 4 refl (P′.the-laws .1 .1 .0 .lawful 𝓤 H A W .typed rs (rows-vals rs) gr .0)) $ pass1 ! (init ! 2 refl (P′.the-laws .1 .1 .1 .0 .lawful 𝓤 H A W .typed bs (bytes-vals bs) gb .0)) $ pass1 ! (init ! 0 refl (tt, record { fits = gn })) $ pass0 ! $
         -- [_5; …; _4; …; _3; …; _2; …; _1; …; _0; …; true; what the parameters own]
         assigns ! (agg ! (and-then ! (load ! (from ! (stop !)) (look ! 8 refl)) (and-then ! (load ! (from ! (stop !)) (look ! 6 refl)) (and-then ! (load ! (from ! (stop !)) (look ! 4 refl))
         (and-then ! (load ! (from ! (stop !)) (look ! 2 refl)) (and-then ! (load ! (from ! (stop !)) (look ! 0 refl)) (no-more !))))))) (from ! (stop !)) (init ! 10 refl (LL.lawful P.the-type P′.the-laws 𝓤 H A W .typed s (vals s) is-s .0)) $
