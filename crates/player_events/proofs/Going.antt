@@ -23,7 +23,7 @@ use Rattle.event_rows.proofs.Ready.{deskFrom, ready, size-high, accepted-high}
 use Rattle.event_rows.proofs.Stepping.{stepped-at}
 use Rattle.player_grammar.specs.Grammar.{meaningOf}
 use Rattle.player_printing.specs.Printing.{stepLine, pageLength}
-use Rattle.player_printing.specs.Wrote.{Wrote}
+use Rattle.player_bytes.specs.Wrote.{Wrote}
 use Rattle.player_text.specs.declared.Player.{Player}
 use Rattle.player_text.specs.declared.Stage.the-variants.{Events}
 use Rattle.player_text.specs.Player.{counted, eventIn}

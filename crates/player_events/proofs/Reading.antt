@@ -13,9 +13,9 @@ use Rattle.bytes.specs.Bytes.{indexAfter, indexOf, slice}
 use Rattle.rig.specs.declared.Event.{Event}
 use Rattle.player_grammar.specs.Grammar.{lineLimit, meaningOf}
 use Rattle.player_printing.specs.Printing.{pageLength, Printed}
-use Rattle.player_printing.specs.Wrote.{Wrote}
+use Rattle.player_bytes.specs.Wrote.{Wrote}
 use Rattle.player_printing.proofs.Lines.{printed-part}
-use Rattle.player_printing.proofs.Stores.{wrote-more}
+use Rattle.player_bytes.proofs.Stores.{wrote-more}
 use Rattle.player_text.specs.Player.{Text, Outcome, outcome, eventIn, onLine}
 use Rattle.player_parts.specs.Parts.{Part, saidBefore, reads}
 use Rattle.player_parts.proofs.Loop.{lineEnd, reads-more, reads-line, reads-long}

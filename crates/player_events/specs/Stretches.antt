@@ -8,7 +8,7 @@ use denote.Ref.{now}
 use Rattle.rig.specs.declared.Rig.{Rig}
 use Rattle.list_rows.specs.State.{Lent}
 use Rattle.player_printing.specs.Printing.{stopLine, pageLength}
-use Rattle.player_printing.specs.Wrote.{Wrote}
+use Rattle.player_bytes.specs.Wrote.{Wrote}
 use Rattle.player_parts.specs.Parts.{reads}
 use Rattle.player_text.specs.declared.Player.{Player}
 use Rattle.player_text.specs.declared.Stage.the-variants.{Events, Over}

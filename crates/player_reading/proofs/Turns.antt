@@ -10,7 +10,7 @@ use lib.ListN.{length, take, drop, length-append, length-drop}
 use lib.Seq.{take-add, take-at, drop-at, drop-drop, sets-eq, length-sets, length-take-le}
 use Rattle.basics.proofs.Basics.{by-bool, clash}
 use Rattle.player_grammar.specs.Grammar.{lineLimit}
-use Rattle.player_printing.specs.Wrote.{Wrote}
+use Rattle.player_bytes.specs.Wrote.{Wrote}
 use Rattle.player_text.specs.declared.Player.{Player}
 use Rattle.player_text.specs.Player.{Text, Outcome, onLine}
 use Rattle.player_text.specs.Calls.{text}

@@ -1,12 +1,12 @@
 // A part of a text, played: its lines, one after the other, and the bytes of the line that its end cuts.
 use list_rows::Rows;
+use player_bytes::put_word;
 use player_cuts::LINE_ROOM;
 use player_cuts::join_line;
 use player_events::Stretch;
 use player_events::play_events;
 use player_lines::line;
 use player_printing::PAGE_LENGTH;
-use player_printing::put_word;
 use player_text::Player;
 use player_text::Stage;
 use rig::Message;

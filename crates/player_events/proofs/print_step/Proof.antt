@@ -6,7 +6,7 @@ use Rattle.player_printing.proofs.Lines.{printed-part}
 use Rattle.player_events.proofs.Reading.{fits-page, copied}
 use Rattle.player_events.proofs.print_step.Statement.{statement}
 use Rattle.player_events.proofs.print_step.Tie as tie
-use Rattle.player_printing.proofs.put_word.Reads as put-word-reads
+use Rattle.player_bytes.proofs.put_word.Reads as put-word-reads
 use Rattle.player_printing.proofs.step_line.Reads as step-line-reads
 
 step-line-requires : tie.Need-step-line-requires

@@ -6,7 +6,7 @@ use Rattle.player_printing.proofs.Lines.{printed-part}
 use Rattle.player_events.proofs.Reading.{fits-page, copied}
 use Rattle.player_events.proofs.stop_here.Statement.{statement}
 use Rattle.player_events.proofs.stop_here.Tie as tie
-use Rattle.player_printing.proofs.put_word.Reads as put-word-reads
+use Rattle.player_bytes.proofs.put_word.Reads as put-word-reads
 use Rattle.player_text.proofs.one_more.Reads as one-more-reads
 use Rattle.player_text.proofs.stop.Reads as stop-reads
 

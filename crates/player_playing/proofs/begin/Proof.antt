@@ -1,0 +1,24 @@
+-- `begin`: the parts of the first state.
+use mathlib.Core.Path.{refl}
+use Rattle.player_playing.proofs.First.{begun}
+use borrow.Author.Needs.{needs}
+use Rattle.player_playing.proofs.begin.Statement.{statement}
+use Rattle.player_playing.proofs.begin.Tie as tie
+use Rattle.player_playing.proofs.made_of.Reads as made-of-reads
+use Rattle.player_text.proofs.begin.Reads as begin-reads
+use Rattle.rig.proofs.Rig.blank.Reads as blank-reads
+
+begin-requires : tie.Need-begin-requires
+begin-requires c κs = search needs
+
+blank-requires : tie.Need-blank-requires
+blank-requires c κs = search needs
+
+made-of-requires : tie.Need-made-of-requires
+made-of-requires c κs = search needs
+
+returns : tie.Need-returns
+returns c = rw (c .made-of .ensures, c .before .blank .ensures, c .before .before .begin .ensures) (refl, begun)
+
+pub begin-spec : {M : Type 1} → statement M
+begin-spec = tie.close (tie.spec begin-requires blank-requires made-of-requires returns)

@@ -1,0 +1,95 @@
+// The player's own state between two parts of a text.
+use list_rows::Rows;
+use player_grammar::LINE_LIMIT;
+use player_printing::Page;
+use player_text::Player;
+use player_text::Stage;
+use rig::Message;
+use rig::Rig;
+use rig::Tables;
+ghost use mathlib.Core.Path.{_≡_};
+ghost use Rattle.player_text.specs.Player.{onEnd};
+ghost use Rattle.player_printing.specs.Printing.{Printed};
+ghost use Rattle.player_playing.specs.State.{known, cutLine, PlayingFits, firstPlaying, overAt};
+
+// Room for a line of the longest length and one byte more, which tells that a line is too long.
+const LINE_ROOM: usize = LINE_LIMIT + 1;
+
+// The player with all that it needs between two parts of a text: what it knows, the rig's tables, its list of messages, and the bytes
+// of the line that the end of a part cut. Nobody outside makes or changes one.
+pub struct Playing {
+    player: Player,
+    tables: Tables,
+    list: Rows,
+    line: [u8; LINE_ROOM],
+    held: usize,
+}
+
+// Two fields, and a state made of its parts. Only these three functions read an array of arrays in a state or write one out as a
+// literal: Rattle does not walk either, and their proofs are by hand.
+fn tables_of(s: Playing) -> Tables
+    ensures { λ r. ⌜ r ≡ s .tables ⌝ }
+{
+    s.tables
+}
+
+fn list_of(s: Playing) -> Rows
+    ensures { λ r. ⌜ r ≡ s .list ⌝ }
+{
+    s.list
+}
+
+fn made_of(
+    player: Player,
+    tables: Tables,
+    list: Rows,
+    line: [u8; LINE_ROOM],
+    held: usize,
+) -> Playing
+    ensures { λ r. ⌜ r ≡ record { player = player; tables = tables; list = list; line = line; held = held } ⌝ }
+{
+    Playing {
+        player: player,
+        tables: tables,
+        list: list,
+        line: line,
+        held: held,
+    }
+}
+
+// Before the first line.
+pub fn begin() -> Playing
+    ensures { λ r. ⌜ r ≡ firstPlaying ⌝ }
+    ensures { λ r. ⌜ PlayingFits r ⌝ }
+{
+    let player = player_text::begin();
+    let tables = Rig::blank();
+    let list = [[0u64; Message::FIELDS]; Rig::MESSAGES];
+    let line = [0u8; LINE_ROOM];
+    made_of(player, tables, list, line, 0)
+}
+
+// The run has ended: no later line is played.
+pub fn is_over(s: Playing) -> bool
+    ensures { λ r. ⌜ r ≡ overAt (s .player .stage) ⌝ }
+{
+    let player = s.player;
+    let stage = player.stage;
+    match stage {
+        Stage::Size => false,
+        Stage::Sets => false,
+        Stage::Events => false,
+        Stage::Over => true,
+    }
+}
+
+// The end of the input; answers how many bytes of the page are to be written out.
+pub fn finish(s: Playing, page: &mut Page) -> usize
+    requires { ⌜ PlayingFits s ⌝ }
+    ensures { λ r. ⌜ Printed (onEnd (known s) (cutLine s)) (now (page .entry)) (now (page .exit)) r ⌝ }
+{
+    let player = s.player;
+    let line = s.line;
+    let held = s.held;
+    player_lines::finish(player, page, &line[..held])
+}
