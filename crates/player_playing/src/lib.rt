@@ -1,7 +1,8 @@
 // The player's own state between two parts of a text.
 use list_rows::Rows;
-use player_grammar::LINE_LIMIT;
+use player_cuts::LINE_ROOM;
 use player_printing::Page;
+use player_reading::read_part;
 use player_text::Player;
 use player_text::Stage;
 use rig::Message;
@@ -9,11 +10,11 @@ use rig::Rig;
 use rig::Tables;
 ghost use mathlib.Core.Path.{_≡_};
 ghost use Rattle.player_text.specs.Player.{onEnd};
-ghost use Rattle.player_printing.specs.Printing.{Printed};
+ghost use Prim.Native.Nat.{_+_, _<_};
+ghost use lib.ListN.{length};
+ghost use Rattle.player_printing.specs.Printing.{pageLength, Printed};
+ghost use Rattle.player_reading.specs.Reading.{ReadTo};
 ghost use Rattle.player_playing.specs.State.{known, cutLine, PlayingFits, firstPlaying, overAt};
-
-// Room for a line of the longest length and one byte more, which tells that a line is too long.
-const LINE_ROOM: usize = LINE_LIMIT + 1;
 
 // The player with all that it needs between two parts of a text: what it knows, the rig's tables, its list of messages, and the bytes
 // of the line that the end of a part cut. Nobody outside makes or changes one.
@@ -27,6 +28,13 @@ pub struct Playing {
 
 // Two fields, and a state made of its parts. Only these three functions read an array of arrays in a state or write one out as a
 // literal: Rattle does not walk either, and their proofs are by hand.
+// The player after a part of a text, the bytes of the part that it read, and those of the output that it wrote.
+pub struct Played {
+    pub playing: Playing,
+    pub taken: usize,
+    pub written: usize,
+}
+
 fn tables_of(s: Playing) -> Tables
     ensures { λ r. ⌜ r ≡ s .tables ⌝ }
 {
@@ -67,6 +75,27 @@ pub fn begin() -> Playing
     let list = [[0u64; Message::FIELDS]; Rig::MESSAGES];
     let line = [0u8; LINE_ROOM];
     made_of(player, tables, list, line, 0)
+}
+
+// Plays a part of a text. It reads all of it, or as many bytes as the output has room for.
+pub fn part(s: Playing, given: &[u8], out: &mut [u8]) -> Played
+    requires { ⌜ PlayingFits s ⌝ }
+    ensures { λ r. ⌜ ReadTo (known s) (cutLine s) (now (given .entry)) (now (out .entry)) (r .taken) (known (r .playing)) (cutLine (r .playing)) (r .written) (now (out .exit)) ⌝ }
+    ensures { λ r. ⌜ PlayingFits (r .playing) × (r .taken < length (now (given .entry)) → length (now (out .entry)) < r .written + pageLength) ⌝ }
+{
+    let mut tables = tables_of(s);
+    let mut list = list_of(s);
+    let player = s.player;
+    let line = s.line;
+    let r = read_part(player, &mut tables, &mut list, line, s.held, given, out);
+    let next = r.player;
+    let cut = r.line;
+    let playing = made_of(next, tables, list, cut, r.held);
+    Played {
+        playing: playing,
+        taken: r.from,
+        written: r.at,
+    }
 }
 
 // The run has ended: no later line is played.
