@@ -15,7 +15,8 @@ use Rattle.model.specs.Run.{fresh, waitingCount}
 use Rattle.model.specs.Printed.{insideUpTo, lineOf}
 use Rattle.player_numbers.specs.Numbers.{allDigits, noLeadingZero, value, number}
 use Rattle.player_grammar.specs.Grammar.{longer, parts, before, allNumbers, numbers, ascends, siteBit, withSites, setLine, one, sitesWord, setWord, askWord, starts, form, eventForm, meaningOf}
-use Rattle.player_printing.specs.Printing.{digits, decimal, stepLine, stopLine}
+use Rattle.player_bytes.specs.Decimal.{digits, decimal}
+use Rattle.player_printing.specs.Printing.{stepLine, stopLine}
 use Rattle.player_text.specs.Player.{counted, stopped, sizeIn, setIn, eventIn, onSize, allGiven, onSet, printedLine, onEvent, atStage, onLine, endsAt, onEnd, start, transcript, output}
 use Rattle.player_parts.specs.Parts.{reads, written}
 

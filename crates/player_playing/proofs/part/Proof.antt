@@ -1,0 +1,37 @@
+-- `part`: the state taken apart, played, and put together.
+use borrow.Author.Needs.{needs}
+use Rattle.player_playing.proofs.part.Statement.{statement}
+use Rattle.player_playing.proofs.part.Tie as tie
+
+tables-of-requires : tie.Need-tables-of-requires
+tables-of-requires c κs = search needs
+
+list-of-requires : tie.Need-list-of-requires
+list-of-requires c κs = search needs
+
+read-part-requires : tie.Need-read-part-requires
+read-part-requires c κs =
+    let p = c .before .before .before .before .before .before .before .before .before .pre in
+    (rw (c .before .before .before .before .before .before .tables-of .ensures, c .before .before .before .before .before .list-of .ensures) (p .fits), p .room)
+
+made-of-requires : tie.Need-made-of-requires
+made-of-requires c κs = search needs
+
+same-length : tie.Need-same-length
+same-length c = search needs
+
+returns : tie.Need-returns
+returns c =
+    let e = c .before .before .before .before .before .read-part .ensures in
+    rw (c .made-of .ensures) (rw (c .before .before .before .before .before .before .before .before .before .before .before .before .tables-of .ensures, c .before .before .before .before .before .before .before .before .before .before .before .list-of .ensures) at (e .0), (record { fits = e .1 .0; room = e .1 .1 }, e .1 .2))
+
+pub part-spec : {M : Type 1} → statement M
+part-spec =
+    tie.close
+    (tie.spec
+    tables-of-requires
+    list-of-requires
+    read-part-requires
+    made-of-requires
+    same-length
+    returns)
