@@ -1,5 +1,5 @@
 -- A part that is read line by line: its start, a line that ends in it, and a line that it cuts.
-use Prim.Native.Nat.{ℕ, suc, _+_, _-_, _≤_}
+use Prim.Native.Nat.{ℕ, zero, suc, _+_, _-_, _≤_, _<_}
 use mathlib.Core.Bool.{Bool, true, false, cond}
 use mathlib.Core.Path.{_≡_, refl, sym, ap, subst, _∙_}
 use mathlib.Core.List.{List, [], _∷_, _++_, append-nil, append-assoc}
@@ -11,6 +11,7 @@ use lib.Seq.{take-add, take-at, drop-at, drop-drop, sets-eq, length-sets, length
 use Rattle.basics.proofs.Basics.{by-bool, clash}
 use Rattle.player_grammar.specs.Grammar.{lineLimit}
 use Rattle.player_bytes.specs.Wrote.{Wrote}
+use Rattle.player_printing.specs.Printing.{pageLength}
 use Rattle.player_text.specs.declared.Player.{Player}
 use Rattle.player_text.specs.Player.{Text, Outcome, onLine}
 use Rattle.player_text.specs.Calls.{text}
@@ -170,3 +171,13 @@ unfolding reads
 stays p ts rows text′ out from at f a =
     let none : between from from text′ ≡ [] = let e : from - from ≡ 0 = omega arith in rw e in
     record { plays = rw none (record { whole = refl; known = refl; printed = record { behind = sym (add-zero at); stored = refl } }); low = omega arith; high = f; room = a }
+
+-- a part with bytes and an output with room for a line: some bytes are read
+pub some-read : {start next : Text} {line text′ out cut after : List ℕ} {from at : ℕ} → ReadTo start line text′ out from next cut at after
+    → 1 ≤ length text′ → pageLength ≤ length out → (from < length text′ → length out < at + pageLength) → 1 ≤ from
+unfolding reads
+some-read {from = suc n} r h g f = omega arith
+some-read {start} {next} {line} {text′} {out} {cut} {after} {from = zero} {at} r h g f =
+    let none : [] ≡ take at after = ap (λ (x : Part). x .said) (r .part) in
+    let e : 0 ≡ at = ap length none ∙ length-take-le at after (r .room) in
+    absurd (omega (arith, e, f (omega (arith, h))))
