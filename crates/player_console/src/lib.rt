@@ -41,7 +41,13 @@ fn read_some(fd: i32, input: &mut [u8], room: usize) -> usize
 fn read_room(room: usize, len: usize) -> usize
     ensures { λ r. ⌜ r ≤ len ⌝ }
 {
-    if room > 0 && room < len { room } else { len }
+    if room == 0 {
+        return len;
+    }
+    if room > len {
+        return len;
+    }
+    room
 }
 
 // Plays the text that `fd` gives, read in pieces of at most `room` bytes. Its turns are counted down from a number that no run uses up, since

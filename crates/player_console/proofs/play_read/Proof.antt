@@ -1,8 +1,9 @@
 -- `play_read`
 use Prim.Native.Nat.{_≤_, _-_}
-use mathlib.Core.Path.{_≡_, refl, sym}
+use mathlib.Core.Path.{_≡_, refl, sym, _∙_}
 use native.Mathlib.Omega.{arith}
-use lib.ListN.{length}
+use denote.Ref.{now}
+use lib.ListN.{length, drop, length-drop}
 use lib.Seq.{length-take-le}
 use Rattle.player_printing.specs.Printing.{pageLength}
 use Rattle.player_playing.specs.State.{PlayingFits}
@@ -45,10 +46,21 @@ add-from : tie.Need-add-from Inv-loop μ-loop
 add-from c = record { fits = omega (arith, c .before .before .before .before .before .before .before .before .before .before .loop .inv .1, c .before .before .before .before .before .before .part .ensures .0 .within, c .before .before .before .before .before .before .before .before .before .before .before .before .before .fits .filled .fits) }
 
 loop-less : tie.Need-loop-less Inv-loop μ-loop
-loop-less c = ?
+loop-less c =
+    let e = c .before .before .before .before .before .before .part .ensures in
+    let l = c .before .before .before .before .before .before .before .before .before .before .loop in
+    let a = c .before .before .before .before .before .before .before .before .before .before .before .before .before .args in
+    let piece = length-take-le (a .filled - l .from) (drop (l .from) (now (a .input))) (simp length-drop (omega (arith, l .inv .1, c .before .before .before .before .before .before .before .before .before .before .before .before .before .pre .1))) in
+    let some = some-read (e .0) (omega (arith, piece, c .before .before .before .before .before .before .before .before .before .loop-test .taken)) (omega (arith, l .inv .2, c .before .before .before .before .before .before .before .before .before .before .before .before .before .pre .2)) (e .1 .1) in
+    omega (arith, some, c .before .before .before .before .before .before .before .before .before .loop-test .taken)
 
 loop-again : tie.Need-loop-again Inv-loop μ-loop
-loop-again c = ?
+loop-again c =
+    let e = c .before .before .before .before .before .before .part .ensures in
+    let l = c .before .before .before .before .before .before .before .before .before .before .loop in
+    let a = c .before .before .before .before .before .before .before .before .before .before .before .before .before .args in
+    let piece = length-take-le (a .filled - l .from) (drop (l .from) (now (a .input))) (simp length-drop (omega (arith, l .inv .1, c .before .before .before .before .before .before .before .before .before .before .before .before .before .pre .1))) in
+    (e .1 .0, omega (arith, e .0 .within, piece, l .inv .1), e .0 .long ∙ l .inv .2)
 
 same-length : tie.Need-same-length Inv-loop μ-loop
 same-length c = c .before .loop .inv .2
