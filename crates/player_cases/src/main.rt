@@ -1,7 +1,11 @@
-// Stored cases of the player: plays each text that its arguments name, under a line with the text's name.
+// Stored cases of the player: plays each text that its arguments name, under a line with the text's name. It reads few bytes at a time, so
+// that each text is cut often, inside lines and at their ends.
 // The file `stdout` was not written by this program: the short answers are read off document 01, the two long ones (codes_full_list,
 // run_billiard_5) come from outside/, the reading of document 01 in Rust.
 use libc::STDOUT_FILENO;
+
+// How many bytes are read at once.
+const PIECE: usize = 61;
 
 fn play_case(i: usize) {
     let mut path = io::buffer();
@@ -13,7 +17,7 @@ fn play_case(i: usize) {
         os::fail(&path[..length]);
         return;
     }
-    player_console::play_from(fd);
+    player_console::play_from(fd, PIECE);
     libc::close(fd);
 }
 
