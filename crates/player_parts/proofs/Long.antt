@@ -12,7 +12,7 @@ use Rattle.player_grammar.specs.declared.Line.the-variants.{Malformed}
 use Rattle.player_text.specs.declared.Stage.{Stage}
 use Rattle.player_text.specs.declared.Stage.the-variants.{Size, Sets, Events, Over}
 use Rattle.player_text.specs.Player.{Text, stopped, sizeIn, setIn, eventIn, onSize, onSet, onEvent, atStage, onLine, endsAt, onEnd, transcript}
-use Rattle.player_lines.proofs.Stages.{line-over, end-over}
+use Rattle.player_text.proofs.Stages.{line-over, end-over}
 use Rattle.player_parts.specs.Parts.{reads, written}
 
 too-long : (line : List ℕ) → lineLimit < length line → meaningOf line ≡ Malformed

@@ -4,13 +4,17 @@ use mathlib.Core.Bool.{Bool, true, false}
 use mathlib.Core.List.{List}
 use lib.ListN.{replicate, take}
 use Rattle.rig.specs.Limits.{blankTables}
+use denote.Ref.{now}
 use Rattle.list_rows.specs.Rows.{zeroRows}
+use Rattle.list_rows.specs.State.{Lent}
 use Rattle.player_grammar.specs.Grammar.{lineLimit}
 use Rattle.player_text.specs.declared.Stage.{Stage}
 use Rattle.player_text.specs.declared.Stage.the-variants.{Size, Sets, Events, Over}
 use Rattle.player_text.specs.Player.{Text}
 use Rattle.player_text.specs.Calls.{text, beginning, PlayerFits}
+use Rattle.player_reading.specs.Reading.{ReadTo, AllOrFull}
 use Rattle.player_playing.specs.declared.Playing.{Playing}
+use Rattle.player_playing.specs.declared.Played.{Played}
 
 -- room for a line of the longest length and one byte more
 abbrev pub lineRoom : ℕ
@@ -39,3 +43,10 @@ overAt Size = false
 overAt Sets = false
 overAt Events = false
 overAt Over = true
+
+-- what a part leaves: `ReadTo` of what the player knows and of the line that is cut, before it and after it
+abbrev pub LeavesPlayed : Playing → List ℕ → Lent (List ℕ) → Played → Type 0
+LeavesPlayed s given out r =
+    ReadTo (known s) (cutLine s) given (now (out .entry)) (r .taken) (known (r .playing)) (cutLine (r .playing)) (r .written) (now (out .exit))
+    × PlayingFits (r .playing)
+    × AllOrFull given (now (out .entry)) (r .taken) (r .written)

@@ -10,11 +10,8 @@ use rig::Rig;
 use rig::Tables;
 ghost use mathlib.Core.Path.{_≡_};
 ghost use Rattle.player_text.specs.Player.{onEnd};
-ghost use Prim.Native.Nat.{_+_, _<_};
-ghost use lib.ListN.{length};
-ghost use Rattle.player_printing.specs.Printing.{pageLength, Printed};
-ghost use Rattle.player_reading.specs.Reading.{ReadTo};
-ghost use Rattle.player_playing.specs.State.{known, cutLine, PlayingFits, firstPlaying, overAt};
+ghost use Rattle.player_printing.specs.Printing.{Printed};
+ghost use Rattle.player_playing.specs.State.{known, cutLine, PlayingFits, firstPlaying, overAt, LeavesPlayed};
 
 // The player with all that it needs between two parts of a text: what it knows, the rig's tables, its list of messages, and the bytes
 // of the line that the end of a part cut. Nobody outside makes or changes one.
@@ -80,8 +77,7 @@ pub fn begin() -> Playing
 // Plays a part of a text. It reads all of it, or as many bytes as the output has room for.
 pub fn part(s: Playing, given: &[u8], out: &mut [u8]) -> Played
     requires { ⌜ PlayingFits s ⌝ }
-    ensures { λ r. ⌜ ReadTo (known s) (cutLine s) (now (given .entry)) (now (out .entry)) (r .taken) (known (r .playing)) (cutLine (r .playing)) (r .written) (now (out .exit)) ⌝ }
-    ensures { λ r. ⌜ PlayingFits (r .playing) × (r .taken < length (now (given .entry)) → length (now (out .entry)) < r .written + pageLength) ⌝ }
+    ensures { λ r. ⌜ LeavesPlayed s (now (given .entry)) out r ⌝ }
 {
     let mut tables = tables_of(s);
     let mut list = list_of(s);

@@ -12,12 +12,11 @@ use player_text::Stage;
 use rig::Message;
 use rig::Rig;
 use rig::Tables;
-ghost use Prim.Native.Nat.{_+_, _<_, _≤_};
+ghost use Prim.Native.Nat.{_≤_};
 ghost use lib.ListN.{length, take};
 ghost use Rattle.player_grammar.specs.Grammar.{lineLimit};
-ghost use Rattle.player_printing.specs.Printing.{pageLength};
-ghost use Rattle.player_text.specs.Calls.{before, text, PlayerFits};
-ghost use Rattle.player_reading.specs.Reading.{ReadTo, GoesOn};
+ghost use Rattle.player_text.specs.Calls.{PlayerFits};
+ghost use Rattle.player_reading.specs.Reading.{LeavesOn, LeavesPart};
 
 // The player after a part, the bytes of the line that the part cut, the bytes of the part that are read, and those of the output that are used.
 pub struct PartRead {
@@ -39,8 +38,7 @@ fn play_on(
     at: usize,
 ) -> Stretch
     requires { ⌜ PlayerFits p (now tables) (now list) × (from ≤ length (now given)) × (at ≤ length (now out)) ⌝ }
-    ensures { λ r. ⌜ GoesOn (before p tables list) (now (given .entry)) from (text (r .player) (now (tables .exit)) (now (list .exit))) at (now (out .entry)) (now (out .exit)) r ⌝ }
-    ensures { λ r. ⌜ PlayerFits (r .player) (now (tables .exit)) (now (list .exit)) ⌝ }
+    ensures { λ r. ⌜ LeavesOn p tables list (now (given .entry)) from out at r ⌝ }
 {
     let stage = p.stage;
     match stage {
@@ -67,8 +65,7 @@ pub fn read_part(
     out: &mut [u8],
 ) -> PartRead
     requires { ⌜ PlayerFits p (now tables) (now list) × (held ≤ lineLimit) ⌝ }
-    ensures { λ r. ⌜ ReadTo (before p tables list) (take held cut) (now (given .entry)) (now (out .entry)) (r .from) (text (r .player) (now (tables .exit)) (now (list .exit))) (take (r .held) (r .line)) (r .at) (now (out .exit)) ⌝ }
-    ensures { λ r. ⌜ PlayerFits (r .player) (now (tables .exit)) (now (list .exit)) × (r .held ≤ lineLimit) × (r .from < length (now (given .entry)) → length (now (out .entry)) < r .at + pageLength) ⌝ }
+    ensures { λ r. ⌜ LeavesPart p tables list (take held cut) (now (given .entry)) out r ⌝ }
 {
     let mut page = [0u8; PAGE_LENGTH];
     let mut q = p;

@@ -2,3 +2,4 @@
 pub mod Lines
 pub mod Heads
 pub mod Start
+pub mod Stages

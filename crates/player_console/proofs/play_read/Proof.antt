@@ -51,7 +51,7 @@ loop-less c =
     let l = c .before .before .before .before .before .before .before .before .before .before .loop in
     let a = c .before .before .before .before .before .before .before .before .before .before .before .before .before .args in
     let piece = length-take-le (a .filled - l .from) (drop (l .from) (now (a .input))) (simp length-drop (omega (arith, l .inv .1, c .before .before .before .before .before .before .before .before .before .before .before .before .before .pre .1))) in
-    let some = some-read (e .0) (omega (arith, piece, c .before .before .before .before .before .before .before .before .before .loop-test .taken)) (omega (arith, l .inv .2, c .before .before .before .before .before .before .before .before .before .before .before .before .before .pre .2)) (e .1 .1) in
+    let some = some-read (e .0) (omega (arith, piece, c .before .before .before .before .before .before .before .before .before .loop-test .taken)) (omega (arith, l .inv .2, c .before .before .before .before .before .before .before .before .before .before .before .before .before .pre .2)) (e .2) in
     omega (arith, some, c .before .before .before .before .before .before .before .before .before .loop-test .taken)
 
 loop-again : tie.Need-loop-again Inv-loop μ-loop
@@ -60,7 +60,7 @@ loop-again c =
     let l = c .before .before .before .before .before .before .before .before .before .before .loop in
     let a = c .before .before .before .before .before .before .before .before .before .before .before .before .before .args in
     let piece = length-take-le (a .filled - l .from) (drop (l .from) (now (a .input))) (simp length-drop (omega (arith, l .inv .1, c .before .before .before .before .before .before .before .before .before .before .before .before .before .pre .1))) in
-    (e .1 .0, omega (arith, e .0 .within, piece, l .inv .1), e .0 .long ∙ l .inv .2)
+    (e .1, omega (arith, e .0 .within, piece, l .inv .1), e .0 .long ∙ l .inv .2)
 
 same-length : tie.Need-same-length Inv-loop μ-loop
 same-length c = c .before .loop .inv .2

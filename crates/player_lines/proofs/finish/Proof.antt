@@ -2,7 +2,7 @@
 use denote.Ref.{now}
 use Rattle.player_text.specs.Calls.{textOf}
 use Rattle.player_text.proofs.Heads.{nothing}
-use Rattle.player_lines.proofs.Stages.{end-size, end-sets, end-over, end-inside-line, end-after-line}
+use Rattle.player_text.proofs.Stages.{end-size, end-sets, end-over, end-inside-line, end-after-line}
 use borrow.Author.Needs.{needs}
 use Rattle.player_lines.proofs.finish.Statement.{statement}
 use Rattle.player_lines.proofs.finish.Tie as tie

@@ -3,7 +3,7 @@ use mathlib.Core.Path.{refl}
 use denote.Ref.{now}
 use Rattle.player_text.specs.Calls.{text}
 use Rattle.player_text.proofs.Heads.{nothing}
-use Rattle.player_lines.proofs.Stages.{line-size, line-set, line-event, line-over}
+use Rattle.player_text.proofs.Stages.{line-size, line-set, line-event, line-over}
 use borrow.Author.Needs.{needs}
 use Rattle.player_lines.proofs.line.Statement.{statement}
 use Rattle.player_lines.proofs.line.Tie as tie

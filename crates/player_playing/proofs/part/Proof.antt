@@ -23,7 +23,7 @@ same-length c = search needs
 returns : tie.Need-returns
 returns c =
     let e = c .before .before .before .before .before .read-part .ensures in
-    rw (c .made-of .ensures) (rw (c .before .before .before .before .before .before .before .before .before .before .before .before .tables-of .ensures, c .before .before .before .before .before .before .before .before .before .before .before .list-of .ensures) at (e .0), (record { fits = e .1 .0; room = e .1 .1 }, e .1 .2))
+    rw (c .made-of .ensures) (rw (c .before .before .before .before .before .before .before .before .before .before .before .before .tables-of .ensures, c .before .before .before .before .before .before .before .before .before .before .before .list-of .ensures) at (e .0), record { fits = e .1; room = e .2 }, e .3)
 
 pub part-spec : {M : Type 1} → statement M
 part-spec =

@@ -89,13 +89,13 @@ same-length : tie.Need-same-length Inv-loop μ-loop
 same-length c = search needs
 
 returns : tie.Need-returns Inv-loop μ-loop
-returns c = let i = c .before .loop .inv in (i .4, (i .0, i .1, λ h. omega (arith, i .4 .long, i .4 .room)))
+returns c = let i = c .before .loop .inv in (i .4, i .0, i .1, λ h. omega (arith, i .4 .long, i .4 .room))
 
 same-length-2 : tie.Need-same-length-2 Inv-loop μ-loop
 same-length-2 c = search needs
 
 returns-2 : tie.Need-returns-2 Inv-loop μ-loop
-returns-2 c = let i = c .before .before .loop .inv in (i .4, (i .0, i .1, λ h. omega (arith, i .4 .long, i .4 .room)))
+returns-2 c = let i = c .before .before .loop .inv in (i .4, i .0, i .1, λ h. omega (arith, i .4 .long, i .4 .room))
 
 same-length-3 : tie.Need-same-length-3 Inv-loop μ-loop
 same-length-3 c = search needs
@@ -106,7 +106,7 @@ returns-3 c =
     let t = c .before .before .before .join-line .ensures in
     let w = not-true _ (c .if2 .taken) in
     let k = kept (i .4) (t .line) (t .taken) (sym (t .whole) ∙ w) in
-    (k .0, (i .0, t .short w, λ h. omega (arith, h, k .1)))
+    (k .0, i .0, t .short w, λ h. omega (arith, h, k .1))
 
 pub read-part-spec : {M : Type 1} → statement M
 read-part-spec =
