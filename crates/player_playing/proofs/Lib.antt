@@ -2,3 +2,4 @@
 pub mod FieldRead
 pub mod Fields
 pub mod First
+pub mod Parts

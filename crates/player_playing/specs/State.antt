@@ -1,7 +1,8 @@
 -- The player's own state between two parts of a text.
 use Prim.Native.Nat.{ℕ, _+_, _≤_}
 use mathlib.Core.Bool.{Bool, true, false}
-use mathlib.Core.List.{List}
+use mathlib.Core.List.{List, _++_}
+use mathlib.Core.Path.{_≡_}
 use lib.ListN.{replicate, take}
 use Rattle.rig.specs.Limits.{blankTables}
 use denote.Ref.{now}
@@ -10,7 +11,7 @@ use Rattle.list_rows.specs.State.{Lent}
 use Rattle.player_grammar.specs.Grammar.{lineLimit}
 use Rattle.player_text.specs.declared.Stage.{Stage}
 use Rattle.player_text.specs.declared.Stage.the-variants.{Size, Sets, Events, Over}
-use Rattle.player_text.specs.Player.{Text}
+use Rattle.player_text.specs.Player.{Text, transcript}
 use Rattle.player_text.specs.Calls.{text, beginning, PlayerFits}
 use Rattle.player_reading.specs.Reading.{ReadTo, AllOrFull}
 use Rattle.player_playing.specs.declared.Playing.{Playing}
@@ -50,3 +51,10 @@ LeavesPlayed s given out r =
     ReadTo (known s) (cutLine s) given (now (out .entry)) (r .taken) (known (r .playing)) (cutLine (r .playing)) (r .written) (now (out .exit))
     × PlayingFits (r .playing)
     × AllOrFull given (now (out .entry)) (r .taken) (r .written)
+
+-- The same by `transcript`: whatever bytes follow, what the text prints from here on is what the part wrote, and then what it prints from there on.
+abbrev pub Continues : Playing → List ℕ → Lent (List ℕ) → Played → Type 0
+Continues s given out r =
+    (rest : List ℕ) →
+    transcript (known s) (cutLine s) (take (r .taken) given ++ rest)
+    ≡ take (r .written) (now (out .exit)) ++ transcript (known (r .playing)) (cutLine (r .playing)) rest

@@ -11,7 +11,7 @@ use rig::Tables;
 ghost use mathlib.Core.Path.{_≡_};
 ghost use Rattle.player_text.specs.Player.{onEnd};
 ghost use Rattle.player_printing.specs.Printing.{Printed};
-ghost use Rattle.player_playing.specs.State.{known, cutLine, PlayingFits, firstPlaying, overAt, LeavesPlayed};
+ghost use Rattle.player_playing.specs.State.{known, cutLine, PlayingFits, firstPlaying, overAt, LeavesPlayed, Continues};
 
 // The player with all that it needs between two parts of a text: what it knows, the rig's tables, its list of messages, and the bytes
 // of the line that the end of a part cut. Nobody outside makes or changes one.
@@ -78,6 +78,7 @@ pub fn begin() -> Playing
 pub fn part(s: Playing, given: &[u8], out: &mut [u8]) -> Played
     requires { ⌜ PlayingFits s ⌝ }
     ensures { λ r. ⌜ LeavesPlayed s (now (given .entry)) out r ⌝ }
+    ensures { λ r. ⌜ Continues s (now (given .entry)) out r ⌝ }
 {
     let mut tables = tables_of(s);
     let mut list = list_of(s);

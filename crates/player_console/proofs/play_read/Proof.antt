@@ -34,20 +34,20 @@ part-requires : tie.Need-part-requires Inv-loop μ-loop
 part-requires c κs = c .before .before .before .loop .inv .0
 
 slice-reshare-prefix-write-all : tie.Need-slice-reshare-prefix-write-all Inv-loop μ-loop
-slice-reshare-prefix-write-all c = c .before .before .part .ensures .0 .room
+slice-reshare-prefix-write-all c = c .before .before .part .ensures .0 .0 .room
 
 slice-aggregate-write-all : tie.Need-slice-aggregate-write-all Inv-loop μ-loop
-slice-aggregate-write-all c = sym (length-take-le _ _ (c .before .before .before .part .ensures .0 .room))
+slice-aggregate-write-all c = sym (length-take-le _ _ (c .before .before .before .part .ensures .0 .0 .room))
 
 write-all-requires : tie.Need-write-all-requires Inv-loop μ-loop
 write-all-requires c κs = search needs
 
 add-from : tie.Need-add-from Inv-loop μ-loop
-add-from c = record { fits = omega (arith, c .before .before .before .before .before .before .before .before .before .before .loop .inv .1, c .before .before .before .before .before .before .part .ensures .0 .within, c .before .before .before .before .before .before .before .before .before .before .before .before .before .fits .filled .fits) }
+add-from c = record { fits = omega (arith, c .before .before .before .before .before .before .before .before .before .before .loop .inv .1, c .before .before .before .before .before .before .part .ensures .0 .0 .within, c .before .before .before .before .before .before .before .before .before .before .before .before .before .fits .filled .fits) }
 
 loop-less : tie.Need-loop-less Inv-loop μ-loop
 loop-less c =
-    let e = c .before .before .before .before .before .before .part .ensures in
+    let e = c .before .before .before .before .before .before .part .ensures .0 in
     let l = c .before .before .before .before .before .before .before .before .before .before .loop in
     let a = c .before .before .before .before .before .before .before .before .before .before .before .before .before .args in
     let piece = length-take-le (a .filled - l .from) (drop (l .from) (now (a .input))) (simp length-drop (omega (arith, l .inv .1, c .before .before .before .before .before .before .before .before .before .before .before .before .before .pre .1))) in
@@ -56,7 +56,7 @@ loop-less c =
 
 loop-again : tie.Need-loop-again Inv-loop μ-loop
 loop-again c =
-    let e = c .before .before .before .before .before .before .part .ensures in
+    let e = c .before .before .before .before .before .before .part .ensures .0 in
     let l = c .before .before .before .before .before .before .before .before .before .before .loop in
     let a = c .before .before .before .before .before .before .before .before .before .before .before .before .before .args in
     let piece = length-take-le (a .filled - l .from) (drop (l .from) (now (a .input))) (simp length-drop (omega (arith, l .inv .1, c .before .before .before .before .before .before .before .before .before .before .before .before .before .pre .1))) in
