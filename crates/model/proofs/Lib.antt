@@ -1,5 +1,7 @@
 -- Laws of the definitions: what proofs cite, so that they need not see through a definition's text.
 pub mod Tables
+pub mod Weights
+pub mod RuleWeights
 pub mod Sets
 pub mod Setup
 pub mod Lawful
@@ -20,3 +22,4 @@ pub mod Codes
 pub mod Theorem
 pub mod Always
 pub mod OfRun
+pub mod Settling

@@ -1,9 +1,10 @@
 // Document 01 as definitions, in specs/, and what holds of every run of them, in proofs/. Every contract of the other crates cites
-// the definitions; the two functions below have the claims about runs as their contracts, so that these are checked
-// with the code and show in the list of proved functions. Both answer 0.
+// the definitions; the three functions below have the claims about runs as their contracts, so that these are checked
+// with the code and show in the list of proved functions. Each answers 0.
 ghost use mathlib.Core.Path.{_≡_};
 ghost use Rattle.model.specs.Run.{Demand3};
 ghost use Rattle.model.specs.Always.{AlwaysShaped, AlwaysLong, NumbersSmall, NineByCount, NeverStray};
+ghost use Rattle.model.specs.Settling.{Settles, MeasureBounded, Deliverable, SettledServes};
 
 // Demand 3: after every event of every run, at most one site is inside, every permission is in one place, and no rig is stuck.
 pub fn demand_3() -> u8
@@ -16,6 +17,15 @@ pub fn demand_3() -> u8
 // where its list began with 1,024 entries, or with 9 but for the count of events; no reply, yield or plain release of a run is stray.
 pub fn beyond() -> u8
     ensures { λ r. ⌜ (r ≡ 0) × AlwaysShaped × AlwaysLong × NumbersSmall × NineByCount × NeverStray ⌝ }
+{
+    0
+}
+
+// No rig exchanges messages for ever: every accepted delivery makes a sum over the messages under way and the remembered inquires smaller,
+// and that sum is at most 10,051. While a message is under way its delivery is refused with 8 or 9 alone; once none is, a site is inside
+// or none waits.
+pub fn settles() -> u8
+    ensures { λ r. ⌜ (r ≡ 0) × Settles × MeasureBounded × Deliverable × SettledServes ⌝ }
 {
     0
 }

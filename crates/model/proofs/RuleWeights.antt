@@ -1,0 +1,207 @@
+-- Each rule: what it sends and leaves remembered weighs less than the message that it took and what was remembered before.
+use Prim.Native.Nat.{ℕ, zero, suc, _+_, _*_, _≤_, _<_}
+use mathlib.Core.Path.{_≡_}
+use mathlib.Core.Bool.{Bool, true, false, not, _&&_, cond}
+use mathlib.Core.List.{List, [], _∷_}
+use native.Mathlib.Omega.{arith}
+use lib.Dec.{eqb}
+use borrow.Author.Tests.{eqb-true, ne-eqb}
+use Rattle.basics.proofs.Basics.{by-bool, and-split}
+use Rattle.rig.specs.declared.Desk.{Desk}
+use Rattle.rig.specs.declared.Message.{Message}
+use Rattle.rig.specs.Limits.{siteLimit, SiteNumber}
+use Rattle.rig.specs.Messages.{REPLY}
+use Rattle.model.specs.Tables.{at}
+use Rattle.model.specs.Priority.{comesBefore}
+use Rattle.model.specs.Desk.{Effect, effect, has, waits, hasFailed, heldFor, inquiredFor, queuedAt}
+use Rattle.model.specs.Arbiter.{grantOf, holderOf, holderKey, siteKey, headOf, heldBy, free, withQueued, without, inquireOf, failTo, nextHeir, granted, grantedHead, clockRaised, formerTold, failFormer, inquireOrFail, answers, queuedUp, onRequest, inquireIfBefore, headNamed, heirTakesOver, holderReleases, fromHolder, isEarly, earlyRelease, onRelease, onYield}
+use Rattle.model.specs.Site.{failedSet, yielded, allHeld, entered, taken, enteredOrYielded, takes, onReply, remembered, yieldedOrRemembered, onInquire, mustYield, yieldedIf, yieldedUpTo, onFail, namesHeld, onTransfer}
+use Rattle.model.specs.Deliver.{delivered}
+use Rattle.model.specs.Settling.{rememberedWeight, weight, weights, rememberedIn}
+use Rattle.model.proofs.Shaped.{by-kind}
+use Rattle.model.proofs.Weights.{weights-append, mark, row-blank, row-changed}
+
+-- what a desk remembers weighs, and what an effect comes to
+abbrev pub stock : Desk → ℕ
+stock d = rememberedWeight * rememberedIn (d .inquired)
+
+abbrev pub cost : Effect → ℕ
+cost e = weights (e .sent) + stock (e .desk)
+
+-- either of two
+either : (t : Bool) (e f : Effect) (n : ℕ) → cost e ≤ n → cost f ≤ n → cost (cond t e f) ≤ n
+either true e f n a b = a
+either false e f n a b = b
+
+lists : (t : Bool) (xs ys : List Message) (n : ℕ) → weights xs ≤ n → weights ys ≤ n → weights (cond t xs ys) ≤ n
+lists true xs ys n a b = a
+lists false xs ys n a b = b
+
+-- an effect that changes nothing
+idle : (d : Desk) → cost (effect d []) ≤ stock d
+unfolding weights
+idle d = omega arith
+
+-- The arbiter's rules: what is remembered stays as it is.
+
+-- a transfer
+nextHeir-weighs : (d : Desk) → weights (nextHeir d) ≤ 1
+unfolding nextHeir weights weight
+nextHeir-weighs d = lists (eqb (headOf d) 0) _ _ 1 (omega arith) (omega arith)
+
+-- a reply and a transfer
+granted-cost : (d : Desk) (k n : ℕ) → cost (granted d k n) ≤ 2 + stock d
+unfolding granted weights weight
+granted-cost d k n = let w = nextHeir-weighs (heldBy d (grantOf d + 1) k n (without d k)) in omega arith
+
+grantedHead-cost : (d : Desk) → cost (grantedHead d) ≤ 2 + stock d
+unfolding grantedHead
+grantedHead-cost d = either (eqb (headOf d) 0) _ _ _ (omega (arith, idle d)) (granted-cost d _ _)
+
+-- a fail, a transfer and an inquire
+answers-weigh : (d : Desk) (k former : ℕ) → weights (answers d k former) ≤ 6
+unfolding answers failFormer inquireOrFail weights weight
+answers-weigh d k former =
+    let a = lists (formerTold d k former) (failTo d former ∷ []) [] 1 (omega arith) (omega arith) in
+    let b : weight (inquireOrFail d k) ≤ 4 = by-bool (comesBefore (siteKey d k) (holderKey d)) (λ e. rw e (omega arith)) (λ e. rw e (omega arith)) in
+    lists (eqb (headOf d) k) _ _ 6 (rw weights-append (omega arith)) (omega arith)
+
+request-cost : (d : Desk) (k n : ℕ) → cost (onRequest d k n) ≤ 6 + stock d
+unfolding onRequest queuedUp clockRaised
+request-cost d k n =
+    let u = clockRaised d n in
+    either (eqb (holderOf u) 0) _ _ _
+    (omega (arith, granted-cost u k n))
+    (omega (arith, answers-weigh (withQueued u k n) k (headOf u)))
+
+-- a transfer and an inquire
+headNamed-weighs : (d : Desk) → weights (headNamed d) ≤ 5
+unfolding headNamed inquireIfBefore weights weight
+headNamed-weighs d =
+    let h = headOf d in
+    let a = lists (comesBefore (siteKey d h) (holderKey d)) (inquireOf d ∷ []) [] 4 (omega arith) (omega arith) in
+    lists (eqb h 0) _ _ 5 (omega arith) (omega arith)
+
+heir-cost : (d : Desk) (x : ℕ) → cost (heirTakesOver d x) ≤ 5 + stock d
+unfolding heirTakesOver
+heir-cost d x = omega (arith, headNamed-weighs (heldBy d (grantOf d + 1) x (queuedAt d x) (without d x)))
+
+early-cost : (d : Desk) (k : ℕ) → cost (earlyRelease d k) ≤ 2 + stock d
+unfolding earlyRelease
+early-cost d k = grantedHead-cost _
+
+-- a plain release, and one that may name an heir
+plain-cost : (d : Desk) (k x n : ℕ) → eqb x 0 ≡ true → cost (onRelease d k x n) ≤ 2 + stock d
+unfolding onRelease holderReleases
+plain-cost d k x n e =
+    either (fromHolder d k n) _ _ _
+    (rw e (grantedHead-cost _))
+    (either (isEarly d k x n) _ _ _ (early-cost d k) (omega (arith, idle d)))
+
+release-cost : (d : Desk) (k x n : ℕ) → cost (onRelease d k x n) ≤ 5 + stock d
+unfolding onRelease holderReleases
+release-cost d k x n =
+    let g = grantedHead-cost (free d (grantOf d) (d .queued)) in
+    let c = early-cost d k in
+    either (fromHolder d k n) _ _ _
+    (either (eqb x 0) _ _ _ (omega arith) (either (eqb (queuedAt d x) 0) _ _ _ (omega (arith, idle d)) (heir-cost d x)))
+    (either (isEarly d k x n) _ _ _ (omega arith) (omega (arith, idle d)))
+
+yield-cost : (d : Desk) (k n : ℕ) → cost (onYield d k n) ≤ 2 + stock d
+unfolding onYield
+yield-cost d k n = either (fromHolder d k n) _ _ _ (grantedHead-cost _) (omega (arith, idle d))
+
+-- The site's rules: a yield is paid for by the inquire that is remembered no more.
+
+mark-high : (n : ℕ) → mark n ≤ 1
+mark-high n = by-bool (eqb n 0) (λ e. rw e (omega arith)) (λ e. rw e (omega arith))
+
+yielded-cost : (d : Desk) (j : ℕ) → SiteNumber j → cost (yielded d j) + rememberedWeight * mark (inquiredFor d j) ≤ 3 + stock d
+unfolding yielded failedSet weights weight
+yielded-cost d j r = omega (arith, row-changed (d .inquired) j 0 r)
+
+-- of one that is remembered
+paid-cost : (d : Desk) (j : ℕ) → SiteNumber j → not (eqb (inquiredFor d j) 0) ≡ true → cost (yielded d j) ≤ stock d
+paid-cost d j r e = omega (arith, rw e at (yielded-cost d j r))
+
+remembered-cost : (d : Desk) (j n : ℕ) → SiteNumber j → cost (effect (remembered d j n) []) ≤ 3 + stock d
+unfolding remembered weights
+remembered-cost d j n r = let h = mark-high n in omega (arith, row-changed (d .inquired) j n r)
+
+inquire-cost : (d : Desk) (j n : ℕ) → SiteNumber j → cost (onInquire d j n) ≤ 3 + stock d
+unfolding onInquire yieldedOrRemembered
+inquire-cost d j n r =
+    let a = remembered-cost d j n r in
+    let b = yielded-cost d j r in
+    either (waits d) _ _ _
+    (either (eqb (heldFor d j) 0) _ _ _ a
+    (either (eqb n (heldFor d j)) _ _ _ (either (hasFailed d) _ _ _ (omega arith) a) (omega (arith, idle d))))
+    (omega (arith, idle d))
+
+taken-stock : (d : Desk) (j n : ℕ) → SiteNumber j → stock (taken d j n) ≤ stock d
+unfolding taken
+taken-stock d j n r =
+    let v = cond (eqb (inquiredFor d j) n) n 0 in
+    let c = row-changed (d .inquired) j v r in
+    let h : mark v ≤ mark (inquiredFor d j) = by-bool (eqb (inquiredFor d j) n) (λ e. rw (e, eqb-true _ n e) (omega arith)) (λ e. rw e (omega arith)) in
+    omega arith
+
+entered-cost : (d : Desk) → cost (effect (entered d) []) ≤ stock d
+unfolding entered weights
+entered-cost d = omega (arith, row-blank)
+
+-- enters, or yields, or neither
+enters-cost : (d : Desk) (j : ℕ) → SiteNumber j → cost (enteredOrYielded d j) ≤ stock d
+unfolding enteredOrYielded
+enters-cost d j r =
+    either (allHeld d) _ _ _ (entered-cost d)
+    (by-bool (hasFailed d && not (eqb (inquiredFor d j) 0))
+    (λ e. rw e (paid-cost d j r (and-split (hasFailed d) _ e .1)))
+    (λ e. rw e (idle d)))
+
+reply-cost : (d : Desk) (j n : ℕ) → SiteNumber j → cost (onReply d j n) ≤ stock d
+unfolding onReply
+reply-cost d j n r =
+    let a = taken-stock d j n r in
+    let b = enters-cost (taken d j n) j r in
+    either (takes d j) _ _ _ (omega arith) (idle d)
+
+yieldedIf-cost : (d : Desk) (j : ℕ) → SiteNumber j → cost (yieldedIf d j) ≤ stock d
+unfolding yieldedIf mustYield
+yieldedIf-cost d j r =
+    by-bool (mustYield d j)
+    (λ e. rw e (paid-cost d j r (and-split (not (eqb (heldFor d j) 0)) _ (and-split (has d j) _ e .1) .1)))
+    (λ e. rw e (idle d))
+
+yieldedUpTo-cost : (d : Desk) (i : ℕ) → i ≤ siteLimit → cost (yieldedUpTo d i) ≤ stock d
+unfolding yieldedUpTo
+yieldedUpTo-cost d zero h = idle d
+yieldedUpTo-cost d (suc i) h =
+    let e = yieldedUpTo d i in
+    let ih = yieldedUpTo-cost d i (omega arith) in
+    let c = yieldedIf-cost (e .desk) (suc i) (record { low = omega arith; high = h }) in
+    rw weights-append (omega arith)
+
+fail-cost : (d : Desk) → d .size ≤ siteLimit → cost (onFail d) ≤ stock d
+unfolding onFail failedSet
+fail-cost d h = either (waits d) _ _ _ (yieldedUpTo-cost (failedSet d) (d .size) h) (idle d)
+
+transfer-cost : (d : Desk) (j x n : ℕ) → cost (onTransfer d j x n) ≤ stock d
+unfolding onTransfer
+transfer-cost d j x n = by-bool (namesHeld d j n) (λ e. rw e (idle d)) (λ e. rw e (idle d))
+
+-- Every message that names sites weighs more than what its delivery comes to.
+pub delivered-falls : (d : Desk) (m : Message) → d .size ≤ siteLimit → SiteNumber (m .from) → (m .kind ≡ REPLY → SiteNumber (m .about)) → cost (delivered d m) < weight m + stock d
+unfolding delivered weight
+delivered-falls d m size from about =
+    by-kind (m .kind)
+    (λ k. rw k (omega (arith, request-cost d (m .from) (m .number))))
+    (λ k. let r = about k in rw k (omega (arith, reply-cost d (m .about) (m .number) r)))
+    (λ k. rw k (by-bool (eqb (m .about) 0)
+    (λ e. rw e (omega (arith, plain-cost d (m .from) (m .about) (m .number) e)))
+    (λ e. rw e (omega (arith, release-cost d (m .from) (m .about) (m .number))))))
+    (λ k. rw k (omega (arith, inquire-cost d (m .from) (m .number) from)))
+    (λ k. rw k (omega (arith, fail-cost d size)))
+    (λ k. rw k (omega (arith, yield-cost d (m .from) (m .number))))
+    (λ k. rw k (omega (arith, transfer-cost d (m .from) (m .about) (m .number))))
+    (λ n1 n2 n3 n4 n5 n6 n7. rw (ne-eqb _ _ n1, ne-eqb _ _ n2, ne-eqb _ _ n3, ne-eqb _ _ n4, ne-eqb _ _ n5, ne-eqb _ _ n6, ne-eqb _ _ n7) (omega (arith, idle d)))
