@@ -1,7 +1,7 @@
 -- Laws of the definitions: what proofs cite, so that they need not see through a definition's text.
 pub mod Tables
 pub mod Weights
-pub mod RuleWeights
+pub mod Accounting
 pub mod Sets
 pub mod Setup
 pub mod Lawful

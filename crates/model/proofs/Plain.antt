@@ -96,7 +96,7 @@ left-plain d = handOns-plain d _
 
 nextHeir-plain : (d : Desk) → AllPlain (nextHeir d)
 unfolding nextHeir
-nextHeir-plain d = either (eqb (headOf d) 0) [] (transferOf d (headOf d) ∷ []) none (one (transferOf d (headOf d)) refl)
+nextHeir-plain d = either (eqb (headOf d) 0) _ _ none (one _ refl)
 
 granted-plain : (d : Desk) (k n : ℕ) → AllPlain (granted d k n .sent)
 unfolding granted

@@ -27,7 +27,7 @@ use Rattle.model.specs.Event.{actor, sitesNamed, possible, takenOff, att
 use Rattle.model.specs.Run.{fresh, run, insideCount, waitingCount, stuck, Demand3}
 use Rattle.model.specs.Settling.{weight, rememberedUpTo, rememberedCount, measure, onlyDeliveries, acceptedAmong, Settles, MeasureBounded, onlyLimits, Deliverable, SettledServes}
 use Rattle.model.proofs.Weights.{weights-append, weights-high, weights-without, row-high, rows-changed}
-use Rattle.model.proofs.RuleWeights.{stock, cost, delivered-falls}
+use Rattle.model.proofs.Accounting.{stock, cost, delivered-falls}
 use Rattle.model.proofs.Shaped.{shaped, ends, about-arbiter}
 use Rattle.model.proofs.Delivered.{first-shaped}
 use Rattle.model.proofs.Theorem.{demand3}

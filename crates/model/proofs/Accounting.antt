@@ -1,8 +1,9 @@
--- Each rule: what it sends and leaves remembered weighs less than the message that it took and what was remembered before.
+-- The accounting of each rule: what it sends and leaves remembered weighs less than the message that it took and what was remembered
+-- before. The numbers stand for themselves; no law here depends on the machine of `protocol`.
 use Prim.Native.Nat.{ℕ, zero, suc, _+_, _*_, _≤_, _<_}
-use mathlib.Core.Path.{_≡_}
+use mathlib.Core.Path.{_≡_, refl}
 use mathlib.Core.Bool.{Bool, true, false, not, _&&_, cond}
-use mathlib.Core.List.{List, [], _∷_}
+use mathlib.Core.List.{List, [], _∷_, _++_}
 use native.Mathlib.Omega.{arith}
 use lib.Dec.{eqb}
 use borrow.Author.Tests.{eqb-true, ne-eqb}
@@ -14,7 +15,7 @@ use Rattle.rig.specs.Messages.{REPLY}
 use Rattle.model.specs.Tables.{at}
 use Rattle.model.specs.Priority.{comesBefore}
 use Rattle.model.specs.Desk.{Effect, effect, has, waits, hasFailed, heldFor, inquiredFor, queuedAt}
-use Rattle.model.specs.Arbiter.{grantOf, holderOf, holderKey, siteKey, headOf, heldBy, free, withQueued, without, inquireOf, failTo, nextHeir, granted, grantedHead, clockRaised, formerTold, failFormer, inquireOrFail, answers, queuedUp, onRequest, inquireIfBefore, headNamed, heirTakesOver, holderReleases, fromHolder, isEarly, earlyRelease, onRelease, onYield}
+use Rattle.model.specs.Arbiter.{holderOf, holderKey, siteKey, headOf, nextHeir, granted, grantedHead, clockRaised, formerTold, failFormer, inquireOrFail, answers, queuedUp, onRequest, inquireIfBefore, headNamed, heirTakesOver, holderReleases, fromHolder, isEarly, earlyRelease, onRelease, onYield}
 use Rattle.model.specs.Site.{failedSet, yielded, allHeld, entered, taken, enteredOrYielded, takes, onReply, remembered, yieldedOrRemembered, onInquire, mustYield, yieldedIf, yieldedUpTo, onFail, namesHeld, onTransfer}
 use Rattle.model.specs.Deliver.{delivered}
 use Rattle.model.specs.Settling.{rememberedWeight, weight, weights, rememberedIn}
@@ -37,6 +38,26 @@ lists : (t : Bool) (xs ys : List Message) (n : ℕ) → weights xs ≤ n → wei
 lists true xs ys n a b = a
 lists false xs ys n a b = b
 
+-- message by message
+nothing : (n : ℕ) → weights [] ≤ n
+unfolding weights
+nothing n = omega arith
+
+more : (m : Message) (ms : List Message) (w n : ℕ) → weight m ≤ w → weights ms ≤ n → weights (m ∷ ms) ≤ w + n
+unfolding weights
+more m ms w n e h = omega arith
+
+one : (m : Message) (w : ℕ) → weight m ≡ w → weights (m ∷ []) ≤ w
+unfolding weights
+one m w e = omega arith
+
+both : (xs ys : List Message) (a b : ℕ) → weights xs ≤ a → weights ys ≤ b → weights (xs ++ ys) ≤ a + b
+both xs ys a b h k = rw weights-append (omega arith)
+
+-- what is sent, where a desk remembers as much as before
+sends : (ms : List Message) (n stocked : ℕ) → weights ms ≤ n → weights ms + stocked ≤ n + stocked
+sends ms n stocked h = omega arith
+
 -- an effect that changes nothing
 idle : (d : Desk) → cost (effect d []) ≤ stock d
 unfolding weights
@@ -46,45 +67,54 @@ idle d = omega arith
 
 -- a transfer
 nextHeir-weighs : (d : Desk) → weights (nextHeir d) ≤ 1
-unfolding nextHeir weights weight
-nextHeir-weighs d = lists (eqb (headOf d) 0) _ _ 1 (omega arith) (omega arith)
+unfolding nextHeir weight
+nextHeir-weighs d = lists (eqb (headOf d) 0) _ _ 1 (nothing 1) (one _ 1 refl)
 
 -- a reply and a transfer
 granted-cost : (d : Desk) (k n : ℕ) → cost (granted d k n) ≤ 2 + stock d
-unfolding granted weights weight
-granted-cost d k n = let w = nextHeir-weighs (heldBy d (grantOf d + 1) k n (without d k)) in omega arith
+unfolding granted weight
+granted-cost d k n = sends _ 2 (stock d) (more _ _ 1 1 (omega arith) (nextHeir-weighs _))
 
 grantedHead-cost : (d : Desk) → cost (grantedHead d) ≤ 2 + stock d
 unfolding grantedHead
 grantedHead-cost d = either (eqb (headOf d) 0) _ _ _ (omega (arith, idle d)) (granted-cost d _ _)
 
+-- an inquire, or a fail
+inquireOrFail-weighs : (d : Desk) (k : ℕ) → weight (inquireOrFail d k) ≤ 4
+unfolding inquireOrFail weight
+inquireOrFail-weighs d k = by-bool (comesBefore (siteKey d k) (holderKey d)) (λ e. rw e (omega arith)) (λ e. rw e (omega arith))
+
+failFormer-weighs : (d : Desk) (k former : ℕ) → weights (failFormer d k former) ≤ 1
+unfolding failFormer weight
+failFormer-weighs d k former = lists (formerTold d k former) _ _ 1 (one _ 1 refl) (nothing 1)
+
 -- a fail, a transfer and an inquire
 answers-weigh : (d : Desk) (k former : ℕ) → weights (answers d k former) ≤ 6
-unfolding answers failFormer inquireOrFail weights weight
+unfolding answers weight
 answers-weigh d k former =
-    let a = lists (formerTold d k former) (failTo d former ∷ []) [] 1 (omega arith) (omega arith) in
-    let b : weight (inquireOrFail d k) ≤ 4 = by-bool (comesBefore (siteKey d k) (holderKey d)) (λ e. rw e (omega arith)) (λ e. rw e (omega arith)) in
-    lists (eqb (headOf d) k) _ _ 6 (rw weights-append (omega arith)) (omega arith)
+    lists (eqb (headOf d) k) _ _ 6
+    (both _ _ 1 5 (failFormer-weighs d k former) (more _ _ 1 4 (omega arith) (more _ [] 4 0 (inquireOrFail-weighs d k) (nothing 0))))
+    (more _ [] 1 5 (omega arith) (nothing 5))
 
 request-cost : (d : Desk) (k n : ℕ) → cost (onRequest d k n) ≤ 6 + stock d
 unfolding onRequest queuedUp clockRaised
 request-cost d k n =
-    let u = clockRaised d n in
-    either (eqb (holderOf u) 0) _ _ _
-    (omega (arith, granted-cost u k n))
-    (omega (arith, answers-weigh (withQueued u k n) k (headOf u)))
+    either (eqb (holderOf d) 0) _ _ _
+    (omega (arith, granted-cost (clockRaised d n) k n))
+    (sends _ 6 (stock d) (answers-weigh _ k _))
 
 -- a transfer and an inquire
+inquireIfBefore-weighs : (d : Desk) (h : ℕ) → weights (inquireIfBefore d h) ≤ 4
+unfolding inquireIfBefore weight
+inquireIfBefore-weighs d h = lists (comesBefore (siteKey d h) (holderKey d)) _ _ 4 (one _ 4 refl) (nothing 4)
+
 headNamed-weighs : (d : Desk) → weights (headNamed d) ≤ 5
-unfolding headNamed inquireIfBefore weights weight
-headNamed-weighs d =
-    let h = headOf d in
-    let a = lists (comesBefore (siteKey d h) (holderKey d)) (inquireOf d ∷ []) [] 4 (omega arith) (omega arith) in
-    lists (eqb h 0) _ _ 5 (omega arith) (omega arith)
+unfolding headNamed weight
+headNamed-weighs d = lists (eqb (headOf d) 0) _ _ 5 (nothing 5) (more _ _ 1 4 (omega arith) (inquireIfBefore-weighs d (headOf d)))
 
 heir-cost : (d : Desk) (x : ℕ) → cost (heirTakesOver d x) ≤ 5 + stock d
 unfolding heirTakesOver
-heir-cost d x = omega (arith, headNamed-weighs (heldBy d (grantOf d + 1) x (queuedAt d x) (without d x)))
+heir-cost d x = sends _ 5 (stock d) (headNamed-weighs _)
 
 early-cost : (d : Desk) (k : ℕ) → cost (earlyRelease d k) ≤ 2 + stock d
 unfolding earlyRelease
@@ -101,11 +131,11 @@ plain-cost d k x n e =
 release-cost : (d : Desk) (k x n : ℕ) → cost (onRelease d k x n) ≤ 5 + stock d
 unfolding onRelease holderReleases
 release-cost d k x n =
-    let g = grantedHead-cost (free d (grantOf d) (d .queued)) in
-    let c = early-cost d k in
-    either (fromHolder d k n) _ _ _
-    (either (eqb x 0) _ _ _ (omega arith) (either (eqb (queuedAt d x) 0) _ _ _ (omega (arith, idle d)) (heir-cost d x)))
-    (either (isEarly d k x n) _ _ _ (omega arith) (omega (arith, idle d)))
+    by-bool (eqb x 0)
+    (λ e. omega (arith, plain-cost d k x n e))
+    (λ e. either (fromHolder d k n) _ _ _
+    (rw e (either (eqb (queuedAt d x) 0) _ _ _ (omega (arith, idle d)) (heir-cost d x)))
+    (either (isEarly d k x n) _ _ _ (omega (arith, early-cost d k)) (omega (arith, idle d))))
 
 yield-cost : (d : Desk) (k n : ℕ) → cost (onYield d k n) ≤ 2 + stock d
 unfolding onYield
