@@ -15,10 +15,12 @@ use Rattle.rig.specs.Messages.{REPLY}
 use Rattle.model.specs.Tables.{at}
 use Rattle.model.specs.Priority.{comesBefore}
 use Rattle.model.specs.Desk.{Effect, effect, has, waits, hasFailed, heldFor, inquiredFor, queuedAt}
+use Rattle.model.specs.Ask.{requests, asked}
+use Rattle.model.specs.Leave.{handOn, handOns, left}
 use Rattle.model.specs.Arbiter.{holderOf, holderKey, siteKey, headOf, nextHeir, granted, grantedHead, clockRaised, formerTold, failFormer, inquireOrFail, answers, queuedUp, onRequest, inquireIfBefore, headNamed, heirTakesOver, holderReleases, fromHolder, isEarly, earlyRelease, onRelease, onYield}
 use Rattle.model.specs.Site.{failedSet, yielded, allHeld, entered, taken, enteredOrYielded, takes, onReply, remembered, yieldedOrRemembered, onInquire, mustYield, yieldedIf, yieldedUpTo, onFail, namesHeld, onTransfer}
 use Rattle.model.specs.Deliver.{delivered}
-use Rattle.model.specs.Settling.{rememberedWeight, weight, weights, rememberedIn}
+use Rattle.model.specs.Settling.{weightLimit, rememberedWeight, turnWeight, weight, weights, rememberedIn}
 use Rattle.model.proofs.Shaped.{by-kind}
 use Rattle.model.proofs.Weights.{weights-append, mark, row-blank, row-changed}
 
@@ -235,3 +237,35 @@ delivered-falls d m size from about =
     (λ k. rw k (omega (arith, yield-cost d (m .from) (m .number))))
     (λ k. rw k (omega (arith, transfer-cost d (m .from) (m .about) (m .number))))
     (λ n1 n2 n3 n4 n5 n6 n7. rw (ne-eqb _ _ n1, ne-eqb _ _ n2, ne-eqb _ _ n3, ne-eqb _ _ n4, ne-eqb _ _ n5, ne-eqb _ _ n6, ne-eqb _ _ n7) (omega (arith, idle d)))
+
+-- An ask and a leave: at most 7 for each member, and nothing is remembered then.
+
+one-member : (xs ys : List Message) (i : ℕ) → weights xs ≤ weightLimit * i → weights ys ≤ 7 → weights (xs ++ ys) ≤ weightLimit * suc i
+one-member xs ys i h k = rw weights-append (omega arith)
+
+requests-weigh : (d : Desk) (n i : ℕ) → weights (requests d n i) ≤ weightLimit * i
+unfolding requests weight
+requests-weigh d n zero = nothing 0
+requests-weigh d n (suc i) = one-member (requests d n i) _ i (requests-weigh d n i) (lists (has d (suc i)) _ _ 7 (one _ 7 refl) (nothing 7))
+
+handOn-weighs : (s j k g : ℕ) → weights (handOn s j k g) ≤ 7
+unfolding handOn weight
+handOn-weighs s j k g =
+    by-bool (eqb k 0)
+    (λ e. rw e (more _ [] 3 4 (omega arith) (nothing 4)))
+    (λ e. rw e (more _ _ 1 6 (omega arith) (more _ [] 6 0 (rw e (omega arith)) (nothing 0))))
+
+handOns-weigh : (d : Desk) (i : ℕ) → weights (handOns d i) ≤ weightLimit * i
+unfolding handOns
+handOns-weigh d zero = nothing 0
+handOns-weigh d (suc i) =
+    one-member (handOns d i) _ i (handOns-weigh d i)
+    (lists (has d (suc i) && not (eqb (heldFor d (suc i)) 0)) _ _ 7 (handOn-weighs _ _ _ _) (nothing 7))
+
+pub asked-cost : (d : Desk) → d .size ≤ siteLimit → cost (asked d) ≤ turnWeight
+unfolding asked
+asked-cost d h = omega (arith, requests-weigh d (d .site .clock + 1) (d .size), row-blank)
+
+pub left-cost : (d : Desk) → d .size ≤ siteLimit → cost (left d) ≤ turnWeight
+unfolding left
+left-cost d h = omega (arith, handOns-weigh d (d .size), row-blank)

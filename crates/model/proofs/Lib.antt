@@ -23,3 +23,4 @@ pub mod Theorem
 pub mod Always
 pub mod OfRun
 pub mod Settling
+pub mod Fullest

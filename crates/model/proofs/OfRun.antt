@@ -14,22 +14,20 @@ use Rattle.model.proofs.Theorem.{demand3}
 use Rattle.model.proofs.Always.{always-shaped}
 use Rattle.model.proofs.Codes.{event-long}
 
--- one list of events after another
-pub run-append : (s : Stored) (es fs : List Event) → run s (es ++ fs) ≡ run (run s es) fs
+run-more : (s : Stored) (es : List Event) (e : Event) → run s (es ++ e ∷ []) ≡ event (run s es) e .next
 unfolding run
-run-append s [] fs = refl
-run-append s (e ∷ es) fs = run-append (event s e .next) es fs
+run-more s [] e = refl
+run-more s (x ∷ es) e = run-more (event s x .next) es e
 
 module _ {s : Stored} (r : OfRun s) where
   pub next-of-run : (e : Event) → OfRun (event s e .next)
-  unfolding run
   next-of-run e = record {
     size = r .size;
     sets = r .sets;
     list = r .list;
     events = r .events ++ e ∷ [];
     passed = r .passed;
-    same = ap (λ (x : Stored). event x e .next) (r .same) ∙ sym (run-append (fresh (r .size) (r .sets) (r .list)) (r .events) (e ∷ []));
+    same = ap (λ (x : Stored). event x e .next) (r .same) ∙ sym (run-more (fresh (r .size) (r .sets) (r .list)) (r .events) e);
   }
 
   pub run-shaped : wellShaped s ≡ true

@@ -1,9 +1,9 @@
 -- No rig exchanges messages for ever: every accepted delivery makes the sum of the weights smaller, and while a message is under way its
 -- delivery is refused for a limit alone.
-use Prim.Native.Nat.{ℕ, zero, suc, _+_, _-_, _*_, _≤_, _<_}
+use Prim.Native.Nat.{ℕ, zero, suc, _+_, _-_, _*_, _≤_}
 use mathlib.Core.Path.{_≡_, refl}
-use mathlib.Core.Logic.{_⊎_, inl, inr, _≢_}
-use mathlib.Core.Bool.{Bool, true, false, not, _||_, cond}
+use mathlib.Core.Logic.{inl, inr, _≢_}
+use mathlib.Core.Bool.{Bool, true, not, _&&_, _||_, cond}
 use mathlib.Core.List.{List, [], _∷_, _++_}
 use mathlib.Core.Option.{Option, none, some}
 use native.Mathlib.Omega.{arith}
@@ -15,82 +15,109 @@ use Rattle.basics.specs.Helpers.{first, withoutFirst, tally}
 use Rattle.basics.proofs.Basics.{by-bool, clash, and-split}
 use Rattle.basics.proofs.Lists.{first-holds}
 use Rattle.rig.specs.declared.Desk.{Desk}
+use Rattle.rig.specs.declared.Event.{Event}
 use Rattle.rig.specs.declared.Event.the-variants.{Ask, Leave, Deliver}
 use Rattle.rig.specs.declared.Message.{Message}
 use Rattle.rig.specs.Limits.{siteLimit, messageLimit, eventLimit, SiteNumber}
 use Rattle.model.specs.Tables.{at}
-use Rattle.model.specs.State.{Stored, underWay, sizeOf, setsOf, inRange, deskOf, withDesk, withAccepted}
+use Rattle.model.specs.State.{Tables, Stored, underWay, sizeOf, setsOf, inRange, isResting, isInside, modeOf, deskOf, withDesk, withAccepted}
 use Rattle.model.specs.Desk.{Effect}
-use Rattle.model.specs.Deliver.{between, delivered}
+use Rattle.model.specs.Deliver.{between}
 use Rattle.model.specs.Shape.{messageShaped, wellShaped}
-use Rattle.model.specs.Event.{actor, sitesNamed, possible, takenOff, attempt, attempted, numbersFit, limitCode, effectCode, Answer, answer, blankMessage, padded, acceptedState, judged, eventAt, settled, played, tested, event}
+use Rattle.model.specs.Event.{actor, sitesNamed, Attempt, refused, possible, takenOff, attempt, attempted, numbersFit, limitCode, effectCode, Answer, answer, blankMessage, padded, acceptedState, judged, eventAt, settled, played, tested, event}
 use Rattle.model.specs.Run.{fresh, run, insideCount, waitingCount, stuck, Demand3}
-use Rattle.model.specs.Settling.{weight, rememberedUpTo, rememberedCount, measure, onlyDeliveries, acceptedAmong, Settles, MeasureBounded, onlyLimits, Deliverable, SettledServes}
+use Rattle.model.specs.Settling.{weights, isDelivery, turnWeight, rememberedUpTo, rememberedCount, measure, acceptedOf, Settles, MeasureBounded, onlyLimits, Deliverable, SettledServes}
 use Rattle.model.proofs.Weights.{weights-append, weights-high, weights-without, row-high, rows-changed}
-use Rattle.model.proofs.Accounting.{stock, cost, delivered-falls}
-use Rattle.model.proofs.Shaped.{shaped, ends, about-arbiter}
+use Rattle.model.proofs.Accounting.{stock, cost, delivered-falls, asked-cost, left-cost}
+use Rattle.model.proofs.Shaped.{Shaped, shaped, listed, ends, about-arbiter}
 use Rattle.model.proofs.Delivered.{first-shaped}
 use Rattle.model.proofs.Theorem.{demand3}
-use Rattle.model.proofs.OfRun.{run-append}
 
--- an accepted answer has a smaller sum, a refused one the same state
-abbrev Falls : Stored → Answer → Type 0
-Falls s x = cond (eqb (x .code) 0) 1 0 + measure (x .next) ≤ measure s
-
-stays : (s : Stored) (c : ℕ) → c ≢ 0 → Falls s (answer c s)
-stays s c h = rw (ne-eqb c 0 h) (omega arith)
-
--- the message m of those that pass p is taken off, with the effect e at site b
-accepted-falls : (s : Stored) (b : ℕ) → SiteNumber b → (p : Message → Bool) (m : Message) → first p (underWay s) ≡ some m → (e : Effect) → cost e < weight m + stock (deskOf (s .tables) b)
-    → measure (acceptedState (s .tables) b (e .desk) (withoutFirst p (underWay s) ++ e .sent)) < measure s
+-- the state after an effect e at site b, with the messages rest beside those sent
+accepted-sum : (s : Stored) (b : ℕ) → SiteNumber b → (rest : List Message) (e : Effect)
+    → measure (acceptedState (s .tables) b (e .desk) (rest ++ e .sent)) + (weights (underWay s) + stock (deskOf (s .tables) b)) ≤ measure s + (weights rest + cost e)
 unfolding measure acceptedState padded withDesk withAccepted rememberedCount deskOf
-accepted-falls s b r p m h e c =
-    let ms = withoutFirst p (underWay s) ++ e .sent in
-    let w = weights-without p (underWay s) m h in
+accepted-sum s b r rest e =
+    let ms = rest ++ e .sent in
     let v = rows-changed (s .tables .inquired) b (e .desk .inquired) siteLimit (r .low) (r .high) in
-    rw (take-append-seam ms (replicate (messageLimit - length ms) blankMessage), weights-append)
-    (omega arith)
+    rw (take-append-seam ms (replicate (messageLimit - length ms) blankMessage), weights-append) (omega arith)
 
-module _ (s : Stored) (w : wellShaped s ≡ true) (a b : ℕ) where
-  abbrev d : Desk
-  d = deskOf (s .tables) b
+-- an answer to an event: where it is accepted, a delivery has made the sum smaller, and an ask or a leave not much larger
+abbrev Counted : Stored → Event → Answer → Type 0
+Counted s e x =
+    cond (isDelivery e && eqb (x .code) 0) 1 0 + measure (x .next) ≤ measure s + turnWeight * cond (not (isDelivery e) && eqb (x .code) 0) 1 0
 
-  abbrev ms : List Message
-  ms = underWay s
+-- a refused one changes nothing
+stays : (s : Stored) (e : Event) (x : Answer) → x .code ≢ 0 → x .next ≡ s → Counted s e x
+stays s e x h q = rw (ne-eqb (x .code) 0 h, q) (by-bool (isDelivery e) (λ i. rw i (omega arith)) (λ i. rw i (omega arith)))
 
-  taken-falls : (o : Option Message) → first (between a b) ms ≡ o → Falls s (settled s b (judged (s .tables .rig .accepted) d ms (takenOff d o (withoutFirst (between a b) ms))))
-  unfolding takenOff judged settled deskOf
-  taken-falls none h = stays s 7 (λ e. omega arith)
-  taken-falls (some m) h =
-      let sh = shaped s w in
-      let mp = first-shaped (sizeOf (s .tables)) (setsOf (s .tables)) a b ms m (sh .messages) h in
+-- what an attempt at site b comes to
+abbrev Pays : Stored → ℕ → Event → Attempt → Type 0
+Pays s b e (refused c) = c ≢ 0
+Pays s b e (possible x rest) =
+    SiteNumber b × (cond (isDelivery e) 1 0 + (weights rest + cost x) ≤ weights (underWay s) + stock (deskOf (s .tables) b) + turnWeight * cond (isDelivery e) 0 1)
+
+judged-counted : (s : Stored) (b : ℕ) (d : Desk) (ms : List Message) (e : Event) (q : Attempt) → Pays s b e q → Counted s e (settled s b (judged (s .tables .rig .accepted) d ms q))
+unfolding judged settled
+judged-counted s b d ms e (refused c) h = stays s e _ h (rw (ne-eqb c 0 h))
+judged-counted s b d ms e (possible x rest) h =
+    let w = accepted-sum s b (h .0) rest x in
+    by-bool (eqb (effectCode (s .tables .rig .accepted) x rest) 0)
+    (λ z. by-bool (isDelivery e)
+    (λ i. rw (z, i) (omega (arith, rw i at (h .1))))
+    (λ i. rw (z, i) (omega (arith, rw i at (h .1)))))
+    (λ z. stays s e (settled s b (judged (s .tables .rig .accepted) d ms (possible x rest))) (rw z (eqb-false _ 0 z)) (rw (z, z)))
+
+module _ (s : Stored) (w : wellShaped s ≡ true) where
+  abbrev t : Tables
+  t = s .tables
+
+  sh : Shaped s
+  sh = shaped s w
+
+  taken-pays : (a b : ℕ) (o : Option Message) → first (between a b) (underWay s) ≡ o → Pays s b (Deliver a b) (takenOff (deskOf t b) o (withoutFirst (between a b) (underWay s)))
+  unfolding takenOff deskOf
+  taken-pays a b none h = λ e. omega arith
+  taken-pays a b (some m) h =
+      let mp = first-shaped (sizeOf t) (setsOf t) a b (underWay s) m (sh .messages) h in
       let en = ends s sh m (mp .0) in
-      let e = delivered d m in
-      let rest = withoutFirst (between a b) ms in
-      by-bool (eqb (effectCode (s .tables .rig .accepted) e rest) 0)
-      (λ z. rw z (omega (arith, accepted-falls s b (rw (mp .1) (en .1)) (between a b) m h e (delivered-falls d m (sh .sets .high) (en .0) (about-arbiter s sh m (mp .0))))))
-      (λ z. rw (z, z) (omega arith))
+      (rw (mp .1) (en .1), omega (arith, weights-without (between a b) (underWay s) m h, delivered-falls (deskOf t b) m (sh .sets .high) (en .0) (about-arbiter s sh m (mp .0))))
 
--- one delivery on any state
-pub delivery-falls : (s : Stored) (a b : ℕ) → Falls s (event s (Deliver a b))
-unfolding event tested played eventAt attempted attempt actor judged settled
-delivery-falls s a b =
+  attempt-pays : (e : Event) → sitesNamed (sizeOf t) e ≡ true → Pays s (actor e) e (attempt (deskOf t (actor e)) (underWay s) e)
+  unfolding sitesNamed actor attempt deskOf
+  attempt-pays (Ask k) i =
+      by-bool (isResting (modeOf t k))
+      (λ c. rw c (listed s sh k i, omega (arith, asked-cost (deskOf t k) (sh .sets .high))))
+      (λ c. rw c (λ e. omega arith))
+  attempt-pays (Leave k) i =
+      by-bool (isInside (modeOf t k))
+      (λ c. rw c (listed s sh k i, omega (arith, left-cost (deskOf t k) (sh .sets .high))))
+      (λ c. rw c (λ e. omega arith))
+  attempt-pays (Deliver a b) i = taken-pays a b (first (between a b) (underWay s)) refl
+
+  attempted-pays : (e : Event) → Pays s (actor e) e (attempted (deskOf t (actor e)) (underWay s) e)
+  unfolding attempted deskOf
+  attempted-pays e =
+      by-bool (sitesNamed (sizeOf t) e)
+      (λ c. rw c (attempt-pays e c))
+      (λ c. rw c (λ x. omega arith))
+
+-- one event on any state
+event-counted : (s : Stored) (e : Event) → Counted s e (event s e)
+unfolding event tested played eventAt
+event-counted s e =
     by-bool (eqb (length (s .list)) messageLimit)
     (λ l. by-bool (wellShaped s)
-    (λ w. by-bool (sitesNamed (deskOf (s .tables) b .size) (Deliver a b))
-    (λ i. rw (l, w, i) (taken-falls s w a b (first (between a b) (underWay s)) refl))
-    (λ i. rw (l, w, i) (stays s 4 (λ e. omega arith))))
-    (λ w. rw (l, w) (stays s 10 (λ e. omega arith))))
-    (λ l. rw l (stays s 13 (λ e. omega arith)))
+    (λ w. rw (l, w) (judged-counted s (actor e) _ _ e _ (attempted-pays s w e)))
+    (λ w. rw (l, w) (stays s e (answer 10 s) (λ x. omega arith) refl)))
+    (λ l. rw l (stays s e (answer 13 s) (λ x. omega arith) refl))
 
 pub settles : Settles
-unfolding Settles onlyDeliveries acceptedAmong run
-settles s [] h = omega arith
-settles s (Ask k ∷ es) h = clash false h refl
-settles s (Leave k ∷ es) h = clash false h refl
-settles s (Deliver a b ∷ es) h =
-    let ih = settles (event s (Deliver a b) .next) es h in
-    let f = delivery-falls s a b in
+unfolding Settles acceptedOf run
+settles s [] = omega arith
+settles s (e ∷ es) =
+    let ih = settles (event s e .next) es in
+    let c = event-counted s e in
     omega arith
 
 -- The sum is never large
@@ -145,15 +172,13 @@ deliverable s w long a b h =
 
 -- Once nothing is under way
 
-serves : (s : Stored) → stuck s ≡ false → s .count ≡ 0 → (insideCount (s .tables .rig) ≢ 0) ⊎ (waitingCount (s .tables .rig) ≡ 0)
-unfolding stuck
-serves s calm c =
+pub settled-serves : SettledServes
+unfolding SettledServes Demand3 stuck
+settled-serves n sets list es e c =
+    let s = run (fresh n sets list) es in
+    let calm = demand3 n sets list es e .notStuck in
     by-bool (eqb (insideCount (s .tables .rig)) 0)
     (λ i. by-bool (eqb (waitingCount (s .tables .rig)) 0)
     (λ w. inr (eqb-true _ 0 w))
     (λ w. clash true refl (rw (c, i, w) at calm)))
     (λ i. inl (eqb-false _ 0 i))
-
-pub settled-serves : SettledServes
-unfolding SettledServes Demand3
-settled-serves n sets list es e fs h c = serves (run (run (fresh n sets list) es) fs) (rw run-append at (demand3 n sets list (es ++ fs) e .notStuck)) c

@@ -60,27 +60,38 @@ measure s = weights (underWay s) + rememberedWeight * rememberedCount (s .tables
 
 -- The claims
 
+-- the most that an ask or a leave adds: for each member a request, or a reply and a release with an heir
+abbrev pub turnWeight : ℕ
+turnWeight = weightLimit * siteLimit
+
 abbrev pub isDelivery : Event → Bool
 isDelivery (Ask s) = false
 isDelivery (Leave s) = false
 isDelivery (Deliver a b) = true
 
-unfoldable pub onlyDeliveries : List Event → Bool
-onlyDeliveries [] = true
-onlyDeliveries (e ∷ es) = isDelivery e && onlyDeliveries es
+-- how many of those events that pass a test are accepted, all played one after another
+unfoldable pub acceptedOf : (Event → Bool) → Stored → List Event → ℕ
+acceptedOf p s [] = 0
+acceptedOf p s (e ∷ es) = cond (p e && eqb (event s e .code) 0) 1 0 + acceptedOf p (event s e .next) es
 
--- how many of the events are accepted, played one after another
-unfoldable pub acceptedAmong : Stored → List Event → ℕ
-acceptedAmong s [] = 0
-acceptedAmong s (e ∷ es) = cond (eqb (event s e .code) 0) 1 0 + acceptedAmong (event s e .next) es
-
--- Every accepted delivery makes the sum smaller by at least 1, whatever the state: no list of deliveries has more accepted ones than the sum.
+-- Every accepted delivery makes the sum smaller by at least 1, whatever the state, and an accepted ask or leave adds at most 217. So no list of
+-- deliveries has more accepted ones than the sum at its start, and no run has more than 217 for each accepted ask and leave.
 unfoldable pub Settles : Type 0
-Settles = (s : Stored) (es : List Event) → onlyDeliveries es ≡ true → acceptedAmong s es + measure (run s es) ≤ measure s
+Settles =
+    (s : Stored) (es : List Event) →
+    acceptedOf isDelivery s es + measure (run s es) ≤ measure s + turnWeight * acceptedOf (λ e. not (isDelivery e)) s es
 
--- The sum is never large: 10,051 at most.
+-- the largest sum: 1,024 requests under way and 31 times 31 inquires remembered, 10,051
+abbrev pub measureLimit : ℕ
+measureLimit = weightLimit * messageLimit + rememberedWeight * (siteLimit * siteLimit)
+
+-- No well-shaped state has a larger one,
 unfoldable pub MeasureBounded : Type 0
-MeasureBounded = (s : Stored) → wellShaped s ≡ true → measure s ≤ weightLimit * messageLimit + rememberedWeight * (siteLimit * siteLimit)
+MeasureBounded = (s : Stored) → wellShaped s ≡ true → measure s ≤ measureLimit
+
+-- and one has just this.
+unfoldable pub MeasureReached : Type 0
+MeasureReached = (s : Stored) × (wellShaped s ≡ true) × (measure s ≡ measureLimit)
 
 -- accepted, or refused for a limit alone
 unfoldable pub onlyLimits : ℕ → Bool
@@ -92,8 +103,6 @@ Deliverable =
     (s : Stored) → wellShaped s ≡ true → length (s .list) ≡ messageLimit →
     (a b : ℕ) → tally (between a b) (underWay s) ≢ 0 → onlyLimits (event s (Deliver a b) .code) ≡ true
 
--- Once nothing is under way, some site is inside or none waits, after every list of deliveries on every state of a run.
+-- Once nothing is under way in a state of a run, some site is inside or none waits.
 unfoldable pub SettledServes : Type 0
-SettledServes =
-    Always (λ s. (es : List Event) → onlyDeliveries es ≡ true → run s es .count ≡ 0 →
-    (insideCount (run s es .tables .rig) ≢ 0) ⊎ (waitingCount (run s es .tables .rig) ≡ 0))
+SettledServes = Always (λ s. s .count ≡ 0 → (insideCount (s .tables .rig) ≢ 0) ⊎ (waitingCount (s .tables .rig) ≡ 0))
