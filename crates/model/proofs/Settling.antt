@@ -18,20 +18,20 @@ use Rattle.rig.specs.declared.Desk.{Desk}
 use Rattle.rig.specs.declared.Event.{Event}
 use Rattle.rig.specs.declared.Event.the-variants.{Ask, Leave, Deliver}
 use Rattle.rig.specs.declared.Message.{Message}
-use Rattle.rig.specs.Limits.{siteLimit, messageLimit, eventLimit, SiteNumber}
-use Rattle.model.specs.Tables.{at}
-use Rattle.model.specs.State.{Tables, Stored, underWay, sizeOf, setsOf, inRange, isResting, isInside, modeOf, deskOf, withDesk, withAccepted}
+use Rattle.rig.specs.Limits.{siteLimit, messageLimit, eventLimit, blankTable, SiteNumber}
+use Rattle.model.specs.Tables.{at, cell}
+use Rattle.model.specs.State.{Tables, Stored, underWay, sizeOf, setsOf, inRange, isResting, isInside, modeOf, freshTables, deskOf, withDesk, withAccepted}
 use Rattle.model.specs.Desk.{Effect}
 use Rattle.model.specs.Deliver.{between}
 use Rattle.model.specs.Shape.{messageShaped, wellShaped}
 use Rattle.model.specs.Event.{actor, sitesNamed, Attempt, refused, possible, takenOff, attempt, attempted, numbersFit, limitCode, effectCode, Answer, answer, blankMessage, padded, acceptedState, judged, eventAt, settled, played, tested, event}
 use Rattle.model.specs.Run.{fresh, run, insideCount, waitingCount, stuck, Demand3}
-use Rattle.model.specs.Settling.{weights, isDelivery, turnWeight, rememberedUpTo, rememberedCount, measure, acceptedOf, Settles, MeasureBounded, onlyLimits, Deliverable, SettledServes}
-use Rattle.model.proofs.Weights.{weights-append, weights-high, weights-without, row-high, rows-changed}
+use Rattle.model.specs.Settling.{weights, rememberedUpTo, rememberedCount, measure, turnWeight, isDelivery, isTurn, acceptedOf, Settles, DeliveriesFew, MeasureBounded, onlyLimits, Deliverable, SettledServes}
+use Rattle.model.proofs.Weights.{weights-append, weights-high, weights-without, row-high, row-empty, rows-changed}
 use Rattle.model.proofs.Accounting.{stock, cost, delivered-falls, asked-cost, left-cost}
 use Rattle.model.proofs.Shaped.{Shaped, shaped, listed, ends, about-arbiter}
 use Rattle.model.proofs.Delivered.{first-shaped}
-use Rattle.model.proofs.Theorem.{demand3}
+use Rattle.model.proofs.Theorem.{blank-cell, demand3}
 
 -- the state after an effect e at site b, with the messages rest beside those sent
 accepted-sum : (s : Stored) (b : ℕ) → SiteNumber b → (rest : List Message) (e : Effect)
@@ -45,7 +45,7 @@ accepted-sum s b r rest e =
 -- an answer to an event: where it is accepted, a delivery has made the sum smaller, and an ask or a leave not much larger
 abbrev Counted : Stored → Event → Answer → Type 0
 Counted s e x =
-    cond (isDelivery e && eqb (x .code) 0) 1 0 + measure (x .next) ≤ measure s + turnWeight * cond (not (isDelivery e) && eqb (x .code) 0) 1 0
+    cond (isDelivery e && eqb (x .code) 0) 1 0 + measure (x .next) ≤ measure s + turnWeight * cond (isTurn e && eqb (x .code) 0) 1 0
 
 -- a refused one changes nothing
 stays : (s : Stored) (e : Event) (x : Answer) → x .code ≢ 0 → x .next ≡ s → Counted s e x
@@ -119,6 +119,20 @@ settles s (e ∷ es) =
     let ih = settles (event s e .next) es in
     let c = event-counted s e in
     omega arith
+
+-- the fresh state has nothing under way and remembers nothing
+fresh-rows : (n : ℕ) → rememberedUpTo blankTable n ≡ 0
+unfolding rememberedUpTo cell
+fresh-rows zero = refl
+fresh-rows (suc n) = omega (arith, fresh-rows n, row-empty (at [] blankTable (suc n)) (blank-cell (suc n)))
+
+fresh-sum : (n : ℕ) (sets : List ℕ) (list : List Message) → measure (fresh n sets list) ≡ 0
+unfolding measure fresh freshTables weights rememberedCount
+fresh-sum n sets list = omega (arith, fresh-rows siteLimit)
+
+pub deliveries-few : DeliveriesFew
+unfolding DeliveriesFew Settles
+deliveries-few n sets list es = let h = settles (fresh n sets list) es in omega (arith, fresh-sum n sets list)
 
 -- The sum is never large
 

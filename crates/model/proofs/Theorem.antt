@@ -43,7 +43,7 @@ blank-row zero i (suc j) = refl
 blank-row (suc m) zero j = at-same 0 siteLimit j
 blank-row (suc m) (suc i) j = blank-row m i j
 
-blank-cell : (k j : ℕ) → cell blankTable k j ≡ 0
+pub blank-cell : (k j : ℕ) → cell blankTable k j ≡ 0
 unfolding cell at
 blank-cell zero zero = refl
 blank-cell zero (suc j) = refl

@@ -79,7 +79,7 @@ pub row-high : (row : List ℕ) → rememberedIn row ≤ siteLimit
 unfolding rememberedIn
 row-high row = count-high _ siteLimit
 
-row-empty : (row : List ℕ) → ((j : ℕ) → at 0 row j ≡ 0) → rememberedIn row ≡ 0
+pub row-empty : (row : List ℕ) → ((j : ℕ) → at 0 row j ≡ 0) → rememberedIn row ≡ 0
 unfolding rememberedIn
 row-empty row h = count-none _ siteLimit (λ j. rw (h j))
 

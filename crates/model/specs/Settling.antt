@@ -17,7 +17,7 @@ use Rattle.model.specs.State.{Tables, Stored, underWay}
 use Rattle.model.specs.Deliver.{between}
 use Rattle.model.specs.Shape.{wellShaped}
 use Rattle.model.specs.Event.{event}
-use Rattle.model.specs.Run.{run, insideCount, waitingCount, Always}
+use Rattle.model.specs.Run.{fresh, run, insideCount, waitingCount, Always}
 
 -- The weights
 
@@ -29,7 +29,7 @@ weightLimit = 7
 abbrev pub rememberedWeight : ℕ
 rememberedWeight = 3
 
--- a message weighs more than all that its delivery can send and leave remembered; a release with an heir more than a plain one
+-- a message weighs more than all that its delivery can add, sent or remembered; a release with an heir adds more than a plain one
 unfoldable pub weight : Message → ℕ
 weight m =
     cond (eqb (m .kind) REQUEST) weightLimit
@@ -69,17 +69,25 @@ isDelivery (Ask s) = false
 isDelivery (Leave s) = false
 isDelivery (Deliver a b) = true
 
--- how many of those events that pass a test are accepted, all played one after another
+-- an ask or a leave
+abbrev pub isTurn : Event → Bool
+isTurn e = not (isDelivery e)
+
+-- how many of the events that pass a test are accepted, all played one after another
 unfoldable pub acceptedOf : (Event → Bool) → Stored → List Event → ℕ
 acceptedOf p s [] = 0
 acceptedOf p s (e ∷ es) = cond (p e && eqb (event s e .code) 0) 1 0 + acceptedOf p (event s e .next) es
 
--- Every accepted delivery makes the sum smaller by at least 1, whatever the state, and an accepted ask or leave adds at most 217. So no list of
--- deliveries has more accepted ones than the sum at its start, and no run has more than 217 for each accepted ask and leave.
+-- Every accepted delivery makes the sum smaller by at least 1, and an accepted ask or leave adds at most 217, whatever the state and the
+-- events. So no list of deliveries has more accepted ones than the sum at its start.
 unfoldable pub Settles : Type 0
-Settles =
-    (s : Stored) (es : List Event) →
-    acceptedOf isDelivery s es + measure (run s es) ≤ measure s + turnWeight * acceptedOf (λ e. not (isDelivery e)) s es
+Settles = (s : Stored) (es : List Event) → acceptedOf isDelivery s es + measure (run s es) ≤ measure s + turnWeight * acceptedOf isTurn s es
+
+-- A run has at most 217 accepted deliveries for each accepted ask or leave.
+unfoldable pub DeliveriesFew : Type 0
+DeliveriesFew =
+    (n : ℕ) (sets : List ℕ) (list : List Message) (es : List Event) →
+    acceptedOf isDelivery (fresh n sets list) es ≤ turnWeight * acceptedOf isTurn (fresh n sets list) es
 
 -- the largest sum: 1,024 requests under way and 31 times 31 inquires remembered, 10,051
 abbrev pub measureLimit : ℕ
