@@ -1,5 +1,5 @@
 -- The accounting of each rule: what it sends and leaves remembered weighs less than the message that it took and what was remembered
--- before. The numbers stand for themselves; no law here depends on the machine of `protocol`.
+-- before. No law here depends on the machine of `protocol`.
 use Prim.Native.Nat.{ℕ, zero, suc, _+_, _*_, _≤_, _<_}
 use mathlib.Core.Path.{_≡_, refl}
 use mathlib.Core.Bool.{Bool, true, false, not, _&&_, cond}
@@ -24,12 +24,12 @@ use Rattle.model.specs.Settling.{weightLimit, rememberedWeight, turnWeig
 use Rattle.model.proofs.Shaped.{by-kind}
 use Rattle.model.proofs.Weights.{weights-append, mark, row-blank, row-changed}
 
--- what a desk remembers weighs, and what an effect comes to
-abbrev pub stock : Desk → ℕ
-stock d = rememberedWeight * rememberedIn (d .inquired)
+-- the weight of what a desk remembers, and that of an effect
+abbrev pub deskWeight : Desk → ℕ
+deskWeight d = rememberedWeight * rememberedIn (d .inquired)
 
 abbrev pub cost : Effect → ℕ
-cost e = weights (e .sent) + stock (e .desk)
+cost e = weights (e .sent) + deskWeight (e .desk)
 
 -- either of two
 either : (t : Bool) (e f : Effect) (n : ℕ) → cost e ≤ n → cost f ≤ n → cost (cond t e f) ≤ n
@@ -57,11 +57,11 @@ both : (xs ys : List Message) (a b : ℕ) → weights xs ≤ a → weights ys �
 both xs ys a b h k = rw weights-append (omega arith)
 
 -- what is sent, where a desk remembers as much as before
-sends : (ms : List Message) (n stocked : ℕ) → weights ms ≤ n → weights ms + stocked ≤ n + stocked
-sends ms n stocked h = omega arith
+sends : (ms : List Message) (n k : ℕ) → weights ms ≤ n → weights ms + k ≤ n + k
+sends ms n k h = omega arith
 
 -- an effect that changes nothing
-idle : (d : Desk) → cost (effect d []) ≤ stock d
+idle : (d : Desk) → cost (effect d []) ≤ deskWeight d
 unfolding weights
 idle d = omega arith
 
@@ -73,11 +73,11 @@ unfolding nextHeir weight
 nextHeir-weighs d = lists (eqb (headOf d) 0) _ _ 1 (nothing 1) (one _ 1 refl)
 
 -- a reply and a transfer
-granted-cost : (d : Desk) (k n : ℕ) → cost (granted d k n) ≤ 2 + stock d
+granted-cost : (d : Desk) (k n : ℕ) → cost (granted d k n) ≤ 2 + deskWeight d
 unfolding granted weight
-granted-cost d k n = sends _ 2 (stock d) (more _ _ 1 1 (omega arith) (nextHeir-weighs _))
+granted-cost d k n = sends _ 2 (deskWeight d) (more _ _ 1 1 (omega arith) (nextHeir-weighs _))
 
-grantedHead-cost : (d : Desk) → cost (grantedHead d) ≤ 2 + stock d
+grantedHead-cost : (d : Desk) → cost (grantedHead d) ≤ 2 + deskWeight d
 unfolding grantedHead
 grantedHead-cost d = either (eqb (headOf d) 0) _ _ _ (omega (arith, idle d)) (granted-cost d _ _)
 
@@ -98,12 +98,12 @@ answers-weigh d k former =
     (both _ _ 1 5 (failFormer-weighs d k former) (more _ _ 1 4 (omega arith) (more _ [] 4 0 (inquireOrFail-weighs d k) (nothing 0))))
     (more _ [] 1 5 (omega arith) (nothing 5))
 
-request-cost : (d : Desk) (k n : ℕ) → cost (onRequest d k n) ≤ 6 + stock d
+request-cost : (d : Desk) (k n : ℕ) → cost (onRequest d k n) ≤ 6 + deskWeight d
 unfolding onRequest queuedUp clockRaised
 request-cost d k n =
     either (eqb (holderOf d) 0) _ _ _
     (omega (arith, granted-cost (clockRaised d n) k n))
-    (sends _ 6 (stock d) (answers-weigh _ k _))
+    (sends _ 6 (deskWeight d) (answers-weigh _ k _))
 
 -- a transfer and an inquire
 inquireIfBefore-weighs : (d : Desk) (h : ℕ) → weights (inquireIfBefore d h) ≤ 4
@@ -114,23 +114,23 @@ headNamed-weighs : (d : Desk) → weights (headNamed d) ≤ 5
 unfolding headNamed weight
 headNamed-weighs d = lists (eqb (headOf d) 0) _ _ 5 (nothing 5) (more _ _ 1 4 (omega arith) (inquireIfBefore-weighs d (headOf d)))
 
-heir-cost : (d : Desk) (x : ℕ) → cost (heirTakesOver d x) ≤ 5 + stock d
+heir-cost : (d : Desk) (x : ℕ) → cost (heirTakesOver d x) ≤ 5 + deskWeight d
 unfolding heirTakesOver
-heir-cost d x = sends _ 5 (stock d) (headNamed-weighs _)
+heir-cost d x = sends _ 5 (deskWeight d) (headNamed-weighs _)
 
-early-cost : (d : Desk) (k : ℕ) → cost (earlyRelease d k) ≤ 2 + stock d
+early-cost : (d : Desk) (k : ℕ) → cost (earlyRelease d k) ≤ 2 + deskWeight d
 unfolding earlyRelease
 early-cost d k = grantedHead-cost _
 
 -- a plain release, and one that may name an heir
-plain-cost : (d : Desk) (k x n : ℕ) → eqb x 0 ≡ true → cost (onRelease d k x n) ≤ 2 + stock d
+plain-cost : (d : Desk) (k x n : ℕ) → eqb x 0 ≡ true → cost (onRelease d k x n) ≤ 2 + deskWeight d
 unfolding onRelease holderReleases
 plain-cost d k x n e =
     either (fromHolder d k n) _ _ _
     (rw e (grantedHead-cost _))
     (either (isEarly d k x n) _ _ _ (early-cost d k) (omega (arith, idle d)))
 
-release-cost : (d : Desk) (k x n : ℕ) → cost (onRelease d k x n) ≤ 5 + stock d
+release-cost : (d : Desk) (k x n : ℕ) → cost (onRelease d k x n) ≤ 5 + deskWeight d
 unfolding onRelease holderReleases
 release-cost d k x n =
     by-bool (eqb x 0)
@@ -139,28 +139,28 @@ release-cost d k x n =
     (rw e (either (eqb (queuedAt d x) 0) _ _ _ (omega (arith, idle d)) (heir-cost d x)))
     (either (isEarly d k x n) _ _ _ (omega (arith, early-cost d k)) (omega (arith, idle d))))
 
-yield-cost : (d : Desk) (k n : ℕ) → cost (onYield d k n) ≤ 2 + stock d
+yield-cost : (d : Desk) (k n : ℕ) → cost (onYield d k n) ≤ 2 + deskWeight d
 unfolding onYield
 yield-cost d k n = either (fromHolder d k n) _ _ _ (grantedHead-cost _) (omega (arith, idle d))
 
--- The site's rules: a yield is paid for by the inquire that is remembered no more.
+-- The site's rules: a yield weighs as much as the inquire that is remembered no more.
 
 mark-high : (n : ℕ) → mark n ≤ 1
 mark-high n = by-bool (eqb n 0) (λ e. rw e (omega arith)) (λ e. rw e (omega arith))
 
-yielded-cost : (d : Desk) (j : ℕ) → SiteNumber j → cost (yielded d j) + rememberedWeight * mark (inquiredFor d j) ≤ 3 + stock d
+yielded-cost : (d : Desk) (j : ℕ) → SiteNumber j → cost (yielded d j) + rememberedWeight * mark (inquiredFor d j) ≤ 3 + deskWeight d
 unfolding yielded failedSet weights weight
 yielded-cost d j r = omega (arith, row-changed (d .inquired) j 0 r)
 
--- of one that is remembered
-paid-cost : (d : Desk) (j : ℕ) → SiteNumber j → not (eqb (inquiredFor d j) 0) ≡ true → cost (yielded d j) ≤ stock d
-paid-cost d j r e = omega (arith, rw e at (yielded-cost d j r))
+-- of a member whose inquire is remembered
+due-cost : (d : Desk) (j : ℕ) → SiteNumber j → not (eqb (inquiredFor d j) 0) ≡ true → cost (yielded d j) ≤ deskWeight d
+due-cost d j r e = omega (arith, rw e at (yielded-cost d j r))
 
-remembered-cost : (d : Desk) (j n : ℕ) → SiteNumber j → cost (effect (remembered d j n) []) ≤ 3 + stock d
+remembered-cost : (d : Desk) (j n : ℕ) → SiteNumber j → cost (effect (remembered d j n) []) ≤ 3 + deskWeight d
 unfolding remembered weights
 remembered-cost d j n r = let h = mark-high n in omega (arith, row-changed (d .inquired) j n r)
 
-inquire-cost : (d : Desk) (j n : ℕ) → SiteNumber j → cost (onInquire d j n) ≤ 3 + stock d
+inquire-cost : (d : Desk) (j n : ℕ) → SiteNumber j → cost (onInquire d j n) ≤ 3 + deskWeight d
 unfolding onInquire yieldedOrRemembered
 inquire-cost d j n r =
     let a = remembered-cost d j n r in
@@ -170,42 +170,42 @@ inquire-cost d j n r =
     (either (eqb n (heldFor d j)) _ _ _ (either (hasFailed d) _ _ _ (omega arith) a) (omega (arith, idle d))))
     (omega (arith, idle d))
 
-taken-stock : (d : Desk) (j n : ℕ) → SiteNumber j → stock (taken d j n) ≤ stock d
+taken-weighs : (d : Desk) (j n : ℕ) → SiteNumber j → deskWeight (taken d j n) ≤ deskWeight d
 unfolding taken
-taken-stock d j n r =
+taken-weighs d j n r =
     let v = cond (eqb (inquiredFor d j) n) n 0 in
     let c = row-changed (d .inquired) j v r in
     let h : mark v ≤ mark (inquiredFor d j) = by-bool (eqb (inquiredFor d j) n) (λ e. rw (e, eqb-true _ n e) (omega arith)) (λ e. rw e (omega arith)) in
     omega arith
 
-entered-cost : (d : Desk) → cost (effect (entered d) []) ≤ stock d
+entered-cost : (d : Desk) → cost (effect (entered d) []) ≤ deskWeight d
 unfolding entered weights
 entered-cost d = omega (arith, row-blank)
 
 -- enters, or yields, or neither
-enters-cost : (d : Desk) (j : ℕ) → SiteNumber j → cost (enteredOrYielded d j) ≤ stock d
+enters-cost : (d : Desk) (j : ℕ) → SiteNumber j → cost (enteredOrYielded d j) ≤ deskWeight d
 unfolding enteredOrYielded
 enters-cost d j r =
     either (allHeld d) _ _ _ (entered-cost d)
     (by-bool (hasFailed d && not (eqb (inquiredFor d j) 0))
-    (λ e. rw e (paid-cost d j r (and-split (hasFailed d) _ e .1)))
+    (λ e. rw e (due-cost d j r (and-split (hasFailed d) _ e .1)))
     (λ e. rw e (idle d)))
 
-reply-cost : (d : Desk) (j n : ℕ) → SiteNumber j → cost (onReply d j n) ≤ stock d
+reply-cost : (d : Desk) (j n : ℕ) → SiteNumber j → cost (onReply d j n) ≤ deskWeight d
 unfolding onReply
 reply-cost d j n r =
-    let a = taken-stock d j n r in
+    let a = taken-weighs d j n r in
     let b = enters-cost (taken d j n) j r in
     either (takes d j) _ _ _ (omega arith) (idle d)
 
-yieldedIf-cost : (d : Desk) (j : ℕ) → SiteNumber j → cost (yieldedIf d j) ≤ stock d
+yieldedIf-cost : (d : Desk) (j : ℕ) → SiteNumber j → cost (yieldedIf d j) ≤ deskWeight d
 unfolding yieldedIf mustYield
 yieldedIf-cost d j r =
     by-bool (mustYield d j)
-    (λ e. rw e (paid-cost d j r (and-split (not (eqb (heldFor d j) 0)) _ (and-split (has d j) _ e .1) .1)))
+    (λ e. rw e (due-cost d j r (and-split (not (eqb (heldFor d j) 0)) _ (and-split (has d j) _ e .1) .1)))
     (λ e. rw e (idle d))
 
-yieldedUpTo-cost : (d : Desk) (i : ℕ) → i ≤ siteLimit → cost (yieldedUpTo d i) ≤ stock d
+yieldedUpTo-cost : (d : Desk) (i : ℕ) → i ≤ siteLimit → cost (yieldedUpTo d i) ≤ deskWeight d
 unfolding yieldedUpTo
 yieldedUpTo-cost d zero h = idle d
 yieldedUpTo-cost d (suc i) h =
@@ -214,16 +214,16 @@ yieldedUpTo-cost d (suc i) h =
     let c = yieldedIf-cost (e .desk) (suc i) (record { low = omega arith; high = h }) in
     rw weights-append (omega arith)
 
-fail-cost : (d : Desk) → d .size ≤ siteLimit → cost (onFail d) ≤ stock d
+fail-cost : (d : Desk) → d .size ≤ siteLimit → cost (onFail d) ≤ deskWeight d
 unfolding onFail failedSet
 fail-cost d h = either (waits d) _ _ _ (yieldedUpTo-cost (failedSet d) (d .size) h) (idle d)
 
-transfer-cost : (d : Desk) (j x n : ℕ) → cost (onTransfer d j x n) ≤ stock d
+transfer-cost : (d : Desk) (j x n : ℕ) → cost (onTransfer d j x n) ≤ deskWeight d
 unfolding onTransfer
 transfer-cost d j x n = by-bool (namesHeld d j n) (λ e. rw e (idle d)) (λ e. rw e (idle d))
 
--- Every message that names sites weighs more than what its delivery comes to.
-pub delivered-falls : (d : Desk) (m : Message) → d .size ≤ siteLimit → SiteNumber (m .from) → (m .kind ≡ REPLY → SiteNumber (m .about)) → cost (delivered d m) < weight m + stock d
+-- A message weighs more than what its delivery adds.
+pub delivered-falls : (d : Desk) (m : Message) → d .size ≤ siteLimit → SiteNumber (m .from) → (m .kind ≡ REPLY → SiteNumber (m .about)) → cost (delivered d m) < weight m + deskWeight d
 unfolding delivered weight
 delivered-falls d m size from about =
     by-kind (m .kind)
@@ -238,7 +238,7 @@ delivered-falls d m size from about =
     (λ k. rw k (omega (arith, transfer-cost d (m .from) (m .about) (m .number))))
     (λ n1 n2 n3 n4 n5 n6 n7. rw (ne-eqb _ _ n1, ne-eqb _ _ n2, ne-eqb _ _ n3, ne-eqb _ _ n4, ne-eqb _ _ n5, ne-eqb _ _ n6, ne-eqb _ _ n7) (omega (arith, idle d)))
 
--- An ask and a leave: at most 7 for each member, and nothing is remembered then.
+-- An ask and a leave: at most 7 for each member; the site remembers nothing after it.
 
 one-member : (xs ys : List Message) (i : ℕ) → weights xs ≤ weightLimit * i → weights ys ≤ 7 → weights (xs ++ ys) ≤ weightLimit * suc i
 one-member xs ys i h k = rw weights-append (omega arith)

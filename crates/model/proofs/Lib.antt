@@ -1,7 +1,5 @@
 -- Laws of the definitions: what proofs cite, so that they need not see through a definition's text.
 pub mod Tables
-pub mod Weights
-pub mod Accounting
 pub mod Sets
 pub mod Setup
 pub mod Lawful
@@ -22,5 +20,7 @@ pub mod Codes
 pub mod Theorem
 pub mod Always
 pub mod OfRun
+pub mod Weights
+pub mod Accounting
 pub mod Settling
 pub mod Fullest

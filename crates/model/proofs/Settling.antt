@@ -28,14 +28,14 @@ use Rattle.model.specs.Event.{actor, sitesNamed, Attempt, refused, possi
 use Rattle.model.specs.Run.{fresh, run, insideCount, waitingCount, stuck, Demand3}
 use Rattle.model.specs.Settling.{weights, rememberedUpTo, rememberedCount, measure, turnWeight, isDelivery, isTurn, acceptedOf, Settles, DeliveriesFew, MeasureBounded, onlyLimits, Deliverable, SettledServes}
 use Rattle.model.proofs.Weights.{weights-append, weights-high, weights-without, row-high, row-empty, rows-changed}
-use Rattle.model.proofs.Accounting.{stock, cost, delivered-falls, asked-cost, left-cost}
+use Rattle.model.proofs.Accounting.{deskWeight, cost, delivered-falls, asked-cost, left-cost}
 use Rattle.model.proofs.Shaped.{Shaped, shaped, listed, ends, about-arbiter}
 use Rattle.model.proofs.Delivered.{first-shaped}
 use Rattle.model.proofs.Theorem.{blank-cell, demand3}
 
 -- the state after an effect e at site b, with the messages rest beside those sent
 accepted-sum : (s : Stored) (b : ℕ) → SiteNumber b → (rest : List Message) (e : Effect)
-    → measure (acceptedState (s .tables) b (e .desk) (rest ++ e .sent)) + (weights (underWay s) + stock (deskOf (s .tables) b)) ≤ measure s + (weights rest + cost e)
+    → measure (acceptedState (s .tables) b (e .desk) (rest ++ e .sent)) + (weights (underWay s) + deskWeight (deskOf (s .tables) b)) ≤ measure s + (weights rest + cost e)
 unfolding measure acceptedState padded withDesk withAccepted rememberedCount deskOf
 accepted-sum s b r rest e =
     let ms = rest ++ e .sent in
@@ -52,12 +52,12 @@ stays : (s : Stored) (e : Event) (x : Answer) → x .code ≢ 0 → x .next ≡ 
 stays s e x h q = rw (ne-eqb (x .code) 0 h, q) (by-bool (isDelivery e) (λ i. rw i (omega arith)) (λ i. rw i (omega arith)))
 
 -- what an attempt at site b comes to
-abbrev Pays : Stored → ℕ → Event → Attempt → Type 0
-Pays s b e (refused c) = c ≢ 0
-Pays s b e (possible x rest) =
-    SiteNumber b × (cond (isDelivery e) 1 0 + (weights rest + cost x) ≤ weights (underWay s) + stock (deskOf (s .tables) b) + turnWeight * cond (isDelivery e) 0 1)
+abbrev Costs : Stored → ℕ → Event → Attempt → Type 0
+Costs s b e (refused c) = c ≢ 0
+Costs s b e (possible x rest) =
+    SiteNumber b × (cond (isDelivery e) 1 0 + (weights rest + cost x) ≤ weights (underWay s) + deskWeight (deskOf (s .tables) b) + turnWeight * cond (isDelivery e) 0 1)
 
-judged-counted : (s : Stored) (b : ℕ) (d : Desk) (ms : List Message) (e : Event) (q : Attempt) → Pays s b e q → Counted s e (settled s b (judged (s .tables .rig .accepted) d ms q))
+judged-counted : (s : Stored) (b : ℕ) (d : Desk) (ms : List Message) (e : Event) (q : Attempt) → Costs s b e q → Counted s e (settled s b (judged (s .tables .rig .accepted) d ms q))
 unfolding judged settled
 judged-counted s b d ms e (refused c) h = stays s e _ h (rw (ne-eqb c 0 h))
 judged-counted s b d ms e (possible x rest) h =
@@ -75,31 +75,31 @@ module _ (s : Stored) (w : wellShaped s ≡ true) where
   sh : Shaped s
   sh = shaped s w
 
-  taken-pays : (a b : ℕ) (o : Option Message) → first (between a b) (underWay s) ≡ o → Pays s b (Deliver a b) (takenOff (deskOf t b) o (withoutFirst (between a b) (underWay s)))
+  taken-costs : (a b : ℕ) (o : Option Message) → first (between a b) (underWay s) ≡ o → Costs s b (Deliver a b) (takenOff (deskOf t b) o (withoutFirst (between a b) (underWay s)))
   unfolding takenOff deskOf
-  taken-pays a b none h = λ e. omega arith
-  taken-pays a b (some m) h =
+  taken-costs a b none h = λ e. omega arith
+  taken-costs a b (some m) h =
       let mp = first-shaped (sizeOf t) (setsOf t) a b (underWay s) m (sh .messages) h in
       let en = ends s sh m (mp .0) in
       (rw (mp .1) (en .1), omega (arith, weights-without (between a b) (underWay s) m h, delivered-falls (deskOf t b) m (sh .sets .high) (en .0) (about-arbiter s sh m (mp .0))))
 
-  attempt-pays : (e : Event) → sitesNamed (sizeOf t) e ≡ true → Pays s (actor e) e (attempt (deskOf t (actor e)) (underWay s) e)
+  attempt-costs : (e : Event) → sitesNamed (sizeOf t) e ≡ true → Costs s (actor e) e (attempt (deskOf t (actor e)) (underWay s) e)
   unfolding sitesNamed actor attempt deskOf
-  attempt-pays (Ask k) i =
+  attempt-costs (Ask k) i =
       by-bool (isResting (modeOf t k))
       (λ c. rw c (listed s sh k i, omega (arith, asked-cost (deskOf t k) (sh .sets .high))))
       (λ c. rw c (λ e. omega arith))
-  attempt-pays (Leave k) i =
+  attempt-costs (Leave k) i =
       by-bool (isInside (modeOf t k))
       (λ c. rw c (listed s sh k i, omega (arith, left-cost (deskOf t k) (sh .sets .high))))
       (λ c. rw c (λ e. omega arith))
-  attempt-pays (Deliver a b) i = taken-pays a b (first (between a b) (underWay s)) refl
+  attempt-costs (Deliver a b) i = taken-costs a b (first (between a b) (underWay s)) refl
 
-  attempted-pays : (e : Event) → Pays s (actor e) e (attempted (deskOf t (actor e)) (underWay s) e)
+  attempted-costs : (e : Event) → Costs s (actor e) e (attempted (deskOf t (actor e)) (underWay s) e)
   unfolding attempted deskOf
-  attempted-pays e =
+  attempted-costs e =
       by-bool (sitesNamed (sizeOf t) e)
-      (λ c. rw c (attempt-pays e c))
+      (λ c. rw c (attempt-costs e c))
       (λ c. rw c (λ x. omega arith))
 
 -- one event on any state
@@ -108,7 +108,7 @@ unfolding event tested played eventAt
 event-counted s e =
     by-bool (eqb (length (s .list)) messageLimit)
     (λ l. by-bool (wellShaped s)
-    (λ w. rw (l, w) (judged-counted s (actor e) _ _ e _ (attempted-pays s w e)))
+    (λ w. rw (l, w) (judged-counted s (actor e) _ _ e _ (attempted-costs s w e)))
     (λ w. rw (l, w) (stays s e (answer 10 s) (λ x. omega arith) refl)))
     (λ l. rw l (stays s e (answer 13 s) (λ x. omega arith) refl))
 

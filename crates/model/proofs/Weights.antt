@@ -21,7 +21,7 @@ use Rattle.model.proofs.Tables.{length-put, at-put-same, at-put-other, 
 
 -- Messages
 
-pub weight-high : (m : Message) → weight m ≤ weightLimit
+weight-high : (m : Message) → weight m ≤ weightLimit
 unfolding weight
 weight-high m =
     by-bool (eqb (m .kind) REQUEST) (λ a. rw a (omega arith))
