@@ -26,7 +26,7 @@ use Rattle.model.specs.Deliver.{between}
 use Rattle.model.specs.Shape.{messageShaped, wellShaped}
 use Rattle.model.specs.Event.{actor, sitesNamed, Attempt, refused, possible, takenOff, attempt, attempted, numbersFit, limitCode, effectCode, Answer, answer, blankMessage, padded, acceptedState, judged, eventAt, settled, played, tested, event}
 use Rattle.model.specs.Run.{fresh, run, insideCount, waitingCount, stuck, Demand3}
-use Rattle.model.specs.Settling.{weights, rememberedUpTo, rememberedCount, measure, turnWeight, isDelivery, isTurn, acceptedOf, Settles, DeliveriesFew, MeasureBounded, onlyLimits, Deliverable, SettledServes}
+use Rattle.model.specs.Settling.{weights, rememberedUpTo, rememberedCount, measure, turnWeight, isDelivery, isTurn, acceptedOf, Settles, DeliveriesEnd, DeliveriesFew, MeasureBounded, onlyLimits, Deliverable, SettledServes}
 use Rattle.model.proofs.Weights.{weights-append, weights-high, weights-without, row-high, row-empty, rows-changed}
 use Rattle.model.proofs.Accounting.{deskWeight, cost, delivered-falls, asked-cost, left-cost}
 use Rattle.model.proofs.Shaped.{Shaped, shaped, listed, ends, about-arbiter}
@@ -119,6 +119,20 @@ settles s (e ∷ es) =
     let ih = settles (event s e .next) es in
     let c = event-counted s e in
     omega arith
+
+-- no more asks and leaves are accepted than there are
+turns-few : (s : Stored) (es : List Event) → acceptedOf isTurn s es ≤ tally isTurn es
+unfolding acceptedOf tally
+turns-few s [] = omega arith
+turns-few s (e ∷ es) =
+    let ih = turns-few (event s e .next) es in
+    by-bool (isTurn e)
+    (λ i. by-bool (eqb (event s e .code) 0) (λ z. rw (i, z) (omega (arith, ih))) (λ z. rw (i, z) (omega (arith, ih))))
+    (λ i. rw i (omega (arith, ih)))
+
+pub deliveries-end : DeliveriesEnd
+unfolding DeliveriesEnd Settles
+deliveries-end s es h = omega (arith, settles s es, turns-few s es, h)
 
 -- the fresh state has nothing under way and remembers nothing
 fresh-rows : (n : ℕ) → rememberedUpTo blankTable n ≡ 0

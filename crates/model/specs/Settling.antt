@@ -79,11 +79,15 @@ acceptedOf p s [] = 0
 acceptedOf p s (e ∷ es) = cond (p e && eqb (event s e .code) 0) 1 0 + acceptedOf p (event s e .next) es
 
 -- Every accepted delivery makes the sum smaller by at least 1, and an accepted ask or leave adds at most 217, whatever the state and the
--- events. So no list of deliveries has more accepted ones than the sum at its start.
+-- events.
 unfoldable pub Settles : Type 0
 Settles = (s : Stored) (es : List Event) → acceptedOf isDelivery s es + measure (run s es) ≤ measure s + turnWeight * acceptedOf isTurn s es
 
--- A run has at most 217 accepted deliveries for each accepted ask or leave.
+-- So a list without ask or leave has no more accepted deliveries than the sum at its start,
+unfoldable pub DeliveriesEnd : Type 0
+DeliveriesEnd = (s : Stored) (es : List Event) → tally isTurn es ≡ 0 → acceptedOf isDelivery s es + measure (run s es) ≤ measure s
+
+-- and a run has at most 217 accepted deliveries for each accepted ask or leave.
 unfoldable pub DeliveriesFew : Type 0
 DeliveriesFew =
     (n : ℕ) (sets : List ℕ) (list : List Message) (es : List Event) →

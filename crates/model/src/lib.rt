@@ -4,7 +4,7 @@
 ghost use mathlib.Core.Path.{_≡_};
 ghost use Rattle.model.specs.Run.{Demand3};
 ghost use Rattle.model.specs.Always.{AlwaysShaped, AlwaysLong, NumbersSmall, NineByCount, NeverStray};
-ghost use Rattle.model.specs.Settling.{Settles, DeliveriesFew, MeasureBounded, MeasureReached, Deliverable, SettledServes};
+ghost use Rattle.model.specs.Settling.{Settles, DeliveriesEnd, DeliveriesFew, MeasureBounded, MeasureReached, Deliverable, SettledServes};
 
 // Demand 3: after every event of every run, at most one site is inside, every permission is in one place, and no rig is stuck.
 pub fn demand_3() -> u8
@@ -25,7 +25,7 @@ pub fn beyond() -> u8
 // or a leave adds at most 217 to it, so that a run has at most 217 deliveries for each of them. The sum is at most 10,051, which a well-shaped
 // state reaches. While a message is under way its delivery is refused with 8 or 9 alone; once none is, a site is inside or none waits.
 pub fn settles() -> u8
-    ensures { λ r. ⌜ (r ≡ 0) × Settles × DeliveriesFew × MeasureBounded × MeasureReached × Deliverable × SettledServes ⌝ }
+    ensures { λ r. ⌜ (r ≡ 0) × Settles × DeliveriesEnd × DeliveriesFew × MeasureBounded × MeasureReached × Deliverable × SettledServes ⌝ }
 {
     0
 }
