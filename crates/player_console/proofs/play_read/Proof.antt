@@ -5,7 +5,6 @@ use native.Mathlib.Omega.{arith}
 use denote.Ref.{now}
 use lib.ListN.{length, drop, length-drop}
 use lib.Seq.{length-take-le}
-use Rattle.player_printing.specs.Printing.{pageLength}
 use Rattle.player_playing.specs.State.{PlayingFits}
 use Rattle.player_reading.proofs.Turns.{some-read}
 use borrow.Author.Needs.{needs}
