@@ -7,7 +7,8 @@ use Rattle.player_grammar.specs.Grammar.{lineLimit}
 use Rattle.player_cuts.specs.declared.Joined.{Joined}
 use Rattle.player_cuts.specs.Joins.{Joins}
 
--- the line is in the first bytes of the array; one that cannot be judged yet has at most `lineLimit` bytes
+-- the line is in the first `held` bytes of the array, and nothing is said of those behind them; one that cannot be judged yet has at most
+-- `lineLimit` bytes
 pub record JoinedTo (j : Joins) (r : Joined) : Type 0 where
   pub line : take (r .held) (r .line) ≡ j .line
   pub taken : r .from ≡ j .taken

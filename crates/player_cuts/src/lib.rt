@@ -1,6 +1,5 @@
 // A line of the player's text that may come in pieces: its bytes, joined.
 use player_grammar::LINE_LIMIT;
-ghost use mathlib.Core.Path.{_≡_};
 ghost use Prim.Native.Nat.{_≤_};
 ghost use lib.ListN.{length, take, drop};
 ghost use Rattle.player_grammar.specs.Grammar.{lineLimit};

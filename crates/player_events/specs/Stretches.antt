@@ -28,11 +28,12 @@ pub record Plays (t : Text) (bytes : List ℕ) (u : Text) (at : ℕ) (out after 
   pub known : u ≡ reads t [] bytes .next
   pub printed : Wrote (reads t [] bytes .said) at out after to
 
--- no whole line is left, the run has ended, or the output has no room for another line
+-- no whole line is left, the run has ended, or the output has less room left than a page
 abbrev pub Ends : List ℕ → List ℕ → Stretch → Type 0
 Ends bytes out r = NoLine bytes (r .from) ⊎ ((r .player .stage ≡ Over) ⊎ (length out < r .at + pageLength))
 
--- the bytes from `from` on are played as far as the answer says, and printed from place `at` on
+-- The bytes from `from` on are played as far as the answer says, and printed from place `at` on. Where the run has ended, further lines may have
+-- been read, which do nothing.
 pub record Stretches (p : Player) (ts ts′ : List (List (List ℕ))) (rows rows′ : List (List ℕ)) (bytes : List ℕ) (from : ℕ) (out after : List ℕ) (at : ℕ) (r : Stretch) : Type 0 where
   pub plays : Plays (text p ts rows) (between from (r .from) bytes) (text (r .player) ts′ rows′) at out after (r .at)
   pub fits : PlayerFits (r .player) ts′ rows′
@@ -48,7 +49,7 @@ pub record Stops (p : Player) (at from : ℕ) (out after : List ℕ) (r : Stretc
   pub printed : Wrote (stopLine 11 (counted (p .line))) at out after (r .at)
   pub room : r .at ≤ length out
 
--- of what a call is lent
+-- `Stretches` of what a call is lent
 abbrev pub LeavesStretch : Player → Lent (List (List (List ℕ))) → Lent (List (List ℕ)) → List ℕ → ℕ → Lent (List ℕ) → ℕ → Stretch → Type 0
 LeavesStretch p ts rows bytes from out at r =
     Stretches p (now (ts .entry)) (now (ts .exit)) (now (rows .entry)) (now (rows .exit)) bytes from (now (out .entry)) (now (out .exit)) at r

@@ -141,7 +141,8 @@ fn stop_here(p: Player, out: &mut [u8], at: usize, from: usize) -> Stretch
 }
 
 // An inner call: plays the lines of events that end within the text, from `from` on, and prints them behind the first `at` bytes of the
-// output. It ends where no whole line is left, where the run has ended, or where the output has no room for another line.
+// output. It ends where no whole line is left, where the run has ended, or where the output has less room left than a page. `sent` is working
+// room for its events, and nothing is promised of what is left there.
 pub fn play_events(
     p: Player,
     tables: &mut Tables,

@@ -13,7 +13,7 @@ use Rattle.player_text.specs.declared.Stage.{Stage}
 use Rattle.player_text.specs.declared.Stage.the-variants.{Size, Sets, Events, Over}
 use Rattle.player_text.specs.Player.{Text, stopped, sizeIn, setIn, eventIn, onSize, onSet, onEvent, atStage, onLine, endsAt, onEnd, transcript}
 use Rattle.player_text.proofs.Stages.{line-over, end-over}
-use Rattle.player_parts.specs.Parts.{reads, written}
+use Rattle.player_parts.specs.Parts.{reads}
 
 too-long : (line : List ℕ) → lineLimit < length line → meaningOf line ≡ Malformed
 unfolding meaningOf
@@ -70,13 +70,6 @@ reads-over p line (b ∷ bs) e =
     (λ t. by-bool (leb (length (line ++ (b ∷ []))) lineLimit)
     (λ u. rw (t, u) (reads-over p (line ++ (b ∷ [])) bs e))
     (λ u. rw (t, u, line-over p (line ++ (b ∷ [])) e) (reads-over p [] bs e)))
-
-pub written-over : (p : Text) (line : List ℕ) (parts : List (List ℕ)) → p .stage ≡ Over → written p line parts ≡ []
-unfolding written
-written-over p line [] e = end-over p line e
-written-over p line (part ∷ parts) e =
-    let r = reads-over p line part e in
-    rw (r .0, r .1) (written-over p _ parts e)
 
 -- A line that is too long prints the same whatever follows it.
 pub long-transcript : (p : Text) (line bs : List ℕ) → lineLimit < length line → transcript p line bs ≡ (onLine p line) .said

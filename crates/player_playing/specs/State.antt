@@ -29,7 +29,7 @@ known s = text (s .player) (s .tables) (s .list)
 abbrev pub cutLine : Playing → List ℕ
 cutLine s = take (s .held) (s .line)
 
--- the parts belong together, as `begin` and every later call leave them, and a line that is not yet too long is held
+-- the player, its tables and its list belong together, as `begin` and every later call leave them, and a line that is not yet too long is held
 pub record PlayingFits (s : Playing) : Type 0 where
   pub fits : PlayerFits (s .player) (s .tables) (s .list)
   pub room : s .held ≤ lineLimit
@@ -45,7 +45,8 @@ overAt Sets = false
 overAt Events = false
 overAt Over = true
 
--- what a part leaves: `ReadTo` of what the player knows and of the line that is cut, before it and after it
+-- What a part leaves: `ReadTo` of what the player knows and of the line that is cut, before it and after it; and all of it is read, or the
+-- output is full.
 abbrev pub LeavesPlayed : Playing → List ℕ → Lent (List ℕ) → Played → Type 0
 LeavesPlayed s given out r =
     ReadTo (known s) (cutLine s) given (now (out .entry)) (r .taken) (known (r .playing)) (cutLine (r .playing)) (r .written) (now (out .exit))

@@ -23,8 +23,6 @@ pub struct Playing {
     held: usize,
 }
 
-// Two fields, and a state made of its parts. Only these three functions read an array of arrays in a state or write one out as a
-// literal: Rattle does not walk either, and their proofs are by hand.
 // The player after a part of a text, the bytes of the part that it read, and those of the output that it wrote.
 pub struct Played {
     pub playing: Playing,
@@ -32,6 +30,8 @@ pub struct Played {
     pub written: usize,
 }
 
+// Two fields, and a state made of its fields. Only these three functions read an array of arrays in a state or write one out as a
+// literal: Rattle does not walk either, and their proofs are by hand.
 fn tables_of(s: Playing) -> Tables
     ensures { λ r. ⌜ r ≡ s .tables ⌝ }
 {
@@ -74,7 +74,8 @@ pub fn begin() -> Playing
     made_of(player, tables, list, line, 0)
 }
 
-// Plays a part of a text. It reads all of it, or as many bytes as the output has room for.
+// Plays a part of a text. It reads all of it, or stops where the output has less room left than a page: with less from the start it may read
+// nothing. The state is as `begin` or an earlier part left it; nobody else makes one.
 pub fn part(s: Playing, given: &[u8], out: &mut [u8]) -> Played
     requires { ⌜ PlayingFits s ⌝ }
     ensures { λ r. ⌜ LeavesPlayed s (now (given .entry)) out r ⌝ }
@@ -109,7 +110,7 @@ pub fn is_over(s: Playing) -> bool
     }
 }
 
-// The end of the input; answers how many bytes of the page are to be written out.
+// The end of the input; answers how many bytes of the page are to be written out. The state is as `begin` or a part left it.
 pub fn finish(s: Playing, page: &mut Page) -> usize
     requires { ⌜ PlayingFits s ⌝ }
     ensures { λ r. ⌜ Printed (onEnd (known s) (cutLine s)) (now (page .entry)) (now (page .exit)) r ⌝ }

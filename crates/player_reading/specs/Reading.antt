@@ -32,16 +32,18 @@ pub record GoesOn (t : Text) (bytes : List ℕ) (from : ℕ) (u : Text) (at : �
   pub high : r .from ≤ length bytes
   pub room : r .at ≤ length out
 
--- of what a call is lent
+-- `GoesOn` of what a call is lent, which then fits the player
 abbrev pub LeavesOn : Player → Lent (List (List (List ℕ))) → Lent (List (List ℕ)) → List ℕ → ℕ → Lent (List ℕ) → ℕ → Stretch → Type 0
 LeavesOn p ts rows given from out at r =
     GoesOn (before p ts rows) given from (text (r .player) (now (ts .exit)) (now (rows .exit))) at (now (out .entry)) (now (out .exit)) r
     × PlayerFits (r .player) (now (ts .exit)) (now (rows .exit))
 
--- all bytes given are read, or the output has no room for another line
+-- All bytes given are read, or the output has less room left than a page, on which any line fits. How many bytes are read with less room than
+-- that is left to the program: from the start it may be none.
 abbrev pub AllOrFull : List ℕ → List ℕ → ℕ → ℕ → Type 0
 AllOrFull given out from at = from < length given → length out < at + pageLength
 
+-- what a part leaves, of what a call is lent: `ReadTo`, and all of it is read, or the output is full
 abbrev pub LeavesPart : Player → Lent (List (List (List ℕ))) → Lent (List (List ℕ)) → List ℕ → List ℕ → Lent (List ℕ) → PartRead → Type 0
 LeavesPart p ts rows line given out r =
     ReadTo (before p ts rows) line given (now (out .entry)) (r .from) (text (r .player) (now (ts .exit)) (now (rows .exit))) (take (r .held) (r .line)) (r .at) (now (out .exit))

@@ -54,7 +54,8 @@ fn play_on(
     }
 }
 
-// An inner call: plays the bytes given, behind the first `held` bytes of the line. It reads all of them, or as many as the output has room for.
+// An inner call: plays the bytes given, behind the first `held` bytes of the line. It reads all of them, or stops where the output has less room
+// left than a page.
 pub fn read_part(
     p: Player,
     tables: &mut Tables,

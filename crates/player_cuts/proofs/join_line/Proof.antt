@@ -11,7 +11,7 @@ use lib.ListN.{length, getD, take, drop, set, length-set}
 use lib.Seq.{take-suc-set, length-take-le}
 use Rattle.basics.proofs.Basics.{clash}
 use Rattle.player_grammar.specs.Grammar.{lineLimit}
-use Rattle.player_cuts.specs.Joins.{Joins, joined}
+use Rattle.player_cuts.specs.Joins.{joined}
 use Rattle.player_cuts.proofs.Joining.{line-ends, line-grows, line-too-long, line-goes-on}
 use Rattle.player_cuts.proofs.join_line.Statement.{statement}
 use Rattle.player_cuts.proofs.join_line.Tie as tie
