@@ -1,0 +1,2 @@
+-- Laws of a whole text.
+pub mod Whole
