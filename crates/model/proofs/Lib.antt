@@ -20,3 +20,4 @@ pub mod Codes
 pub mod Theorem
 pub mod Always
 pub mod OfRun
+pub mod FromDemand3

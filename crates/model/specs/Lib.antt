@@ -15,3 +15,4 @@ pub mod Event
 pub mod Run
 pub mod Printed
 pub mod Always
+pub mod Corollaries
