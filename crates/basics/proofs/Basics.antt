@@ -199,16 +199,16 @@ unfolding count
 count-unique p zero k l h a b e c d f = absurd (omega arith)
 count-unique p (suc n) k l h a b e c d f =
     by-bool (p (suc n))
-    (λ t. let z = rw t at h in let x = last t k z a b e in let y = last t l z c d f in omega arith)
+    (λ t. let z = rw t at h in let x = last k z a b e in let y = last l z c d f in omega arith)
     (λ t. count-unique p n k l (rw t at h) a (low t k b e) e c (low t l d f) f)
   where
     -- one that passes is not the last, where that one fails
     low : p (suc n) ≡ false → (m : ℕ) → m ≤ suc n → p m ≡ true → m ≤ n
     low t m b e = by-bool (eqb m (suc n)) (λ q. clash (p m) e (rw (eqb-true m (suc n) q) t)) (λ q. let ne = eqb-false m (suc n) q in omega arith)
 
-    -- it is the last, where that one passes
-    last : p (suc n) ≡ true → (m : ℕ) → suc (count p n) ≤ 1 → 1 ≤ m → m ≤ suc n → p m ≡ true → m ≡ suc n
-    last t m h a b e =
+    -- it is the last, where none before that one passes
+    last : (m : ℕ) → suc (count p n) ≤ 1 → 1 ≤ m → m ≤ suc n → p m ≡ true → m ≡ suc n
+    last m h a b e =
         by-bool (eqb m (suc n))
         (λ q. eqb-true m (suc n) q)
         (λ q. let ne = eqb-false m (suc n) q in

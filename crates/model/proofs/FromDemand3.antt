@@ -1,4 +1,4 @@
--- What follows from demand 3 alone.
+-- What follows from demand 3 alone, where there is a site.
 use Prim.Native.Nat.{ℕ, _≤_}
 use mathlib.Core.Path.{_≡_, refl}
 use mathlib.Core.Bool.{Bool, true}
