@@ -1,21 +1,21 @@
--- Each case gets the code listed for it, by calculation. The tables of many cases are the same: whether they are well shaped is calculated once.
+-- Each case gets the code listed for it, by calculation. Most cases have the same sets and tables: whether these are well shaped is calculated once.
 use Prim.Native.Nat.{ℕ, _-_}
 use Prim.Native.String.{String}
 use mathlib.Core.Path.{_≡_, refl}
-use mathlib.Core.Bool.{true, not, _&&_, cond}
+use mathlib.Core.Bool.{Bool, true, not, _&&_, cond}
 use mathlib.Core.List.{List, [], _∷_, _++_, map}
 use lib.Dec.{eqb, leb}
-use lib.ListN.{length, replicate}
+use lib.ListN.{length, take, replicate}
 use Rattle.basics.specs.Helpers.{all, any, first, withoutFirst}
 use Rattle.basics.proofs.Basics.{by-bool}
 use Rattle.rig.specs.declared.Event.{Event}
 use Rattle.rig.specs.declared.Event.the-variants.{Ask}
-use Rattle.rig.specs.Limits.{messageLimit}
+use Rattle.rig.specs.Limits.{messageLimit, blankTable}
 use Rattle.rig.specs.Messages.{request}
 use Rattle.model.specs.Tables.{at, put, cell}
 use Rattle.model.specs.Sets.{member, meet, names}
 use Rattle.model.specs.Setup.{sizeListed, allName, meetsEarlier, allMeet, setupCode, keptSets, freshRig}
-use Rattle.model.specs.State.{Tables, Stored, underWay, sizeOf, setsOf, freshTables, deskOf, withDesk, withAccepted}
+use Rattle.model.specs.State.{Stored, freshTables, deskOf, withDesk, withAccepted}
 use Rattle.model.specs.Priority.{comesBefore, headWith, head}
 use Rattle.model.specs.Ask.{requests, asked}
 use Rattle.model.specs.Leave.{handOn, handOns, left}
@@ -25,33 +25,43 @@ use Rattle.model.specs.Deliver.{between, delivered}
 use Rattle.model.specs.Shape.{isNumber, isGiven, setShaped, modeShaped, siteBlank, siteShaped, holderShaped, arbiterShaped, placeShaped, rigShaped, entryShaped, ownShaped, heirShaped, queuedShaped, everywhere, numberShaped, plainShaped, releaseShaped, aboutShaped, messageShaped, messagesShaped, tablesShaped, wellShaped}
 use Rattle.model.specs.Event.{actor, sitesNamed, takenOff, attempt, attempted, numbersUpTo, numbersFit, limitCode, blankMessage, padded, acceptedState, judged, eventAt, settled, played, tested, event}
 use Rattle.model.specs.Run.{fresh}
-use Rattle.event_example.specs.States.{site, arbiter, entry, baseTables, spentTables, baseMessages, stored, base, alike, many, onRig, sizeIs, acceptedIs, setIs, siteIs, arbiterIs, heldIs, heirIs, inquiredIs, queuedIs, atLimits}
-use Rattle.event_example.specs.Cases.{Case, misjudged, Lent, withTables, changedCases, lentCases, spentCases, cases}
+use Rattle.event_example.specs.States.{site, arbiter, entry, baseSets, baseHeld, baseHeir, baseQueued, baseMessages, Parts, asIs, rigWith, stateWith, base, siteIs, arbiterIs, acceptedIs, listIs, carries, many, full, sizeIs, setIs, heldIs, heirIs, inquiredIs, queuedIs, atLimits, alike}
+use Rattle.event_example.specs.Cases.{Case, misjudged, Partial, whole, wholeCases, partCases, cases}
 
--- the code of an event where the tables are well shaped
-codeOn : Tables → Lent → ℕ
-codeOn t l =
-    let s = stored t (l .list) (l .count) in
-    cond (not (eqb (length (l .list)) messageLimit)) 13
-    (cond (not (leb (l .count) messageLimit && messagesShaped (sizeOf t) (setsOf t) (underWay s))) 10
-    (played s (l .event) .code))
+-- the tables of numbers, which most cases share
+entriesShaped : Bool
+entriesShaped =
+    everywhere (ownShaped baseSets) baseHeld
+    && (everywhere (heirShaped baseSets) baseHeir && (everywhere (ownShaped baseSets) blankTable && everywhere (queuedShaped baseSets) baseQueued))
 
-misjudgedOn : Tables → List Lent → List String
-misjudgedOn t [] = []
-misjudgedOn t (l ∷ ls) = cond (eqb (codeOn t l) (l .code)) (misjudgedOn t ls) (l .name ∷ misjudgedOn t ls)
+-- all else of a state
+partsShaped : Parts → Bool
+partsShaped p = leb (p .count) messageLimit && (rigShaped (rigWith p) && messagesShaped 3 baseSets (take (p .count) (p .list)))
 
-module _ (t : Tables) (shaped : tablesShaped t ≡ true) where
-  code-on : (l : Lent) → event (stored t (l .list) (l .count)) (l .event) .code ≡ codeOn t l
-  unfolding event tested wellShaped stored codeOn
-  code-on l =
-      by-bool (eqb (length (l .list)) messageLimit)
-      (λ a. rw (a, shaped) (by-bool (leb (l .count) messageLimit && messagesShaped (sizeOf t) (setsOf t) (underWay (stored t (l .list) (l .count)))) (λ b. rw b) (λ b. rw b)))
+-- the code of an event where those are well shaped
+codeOn : Parts → Event → ℕ
+codeOn p e = cond (not (eqb (length (p .list)) messageLimit)) 13 (cond (not (partsShaped p)) 10 (played (stateWith p) e .code))
+
+misjudgedOn : List Partial → List String
+misjudgedOn [] = []
+misjudgedOn (p ∷ ps) = cond (eqb (codeOn (p .parts) (p .event)) (p .code)) (misjudgedOn ps) (p .name ∷ misjudgedOn ps)
+
+module _ (shaped : entriesShaped ≡ true) where
+  parts-decide : (p : Parts) → wellShaped (stateWith p) ≡ partsShaped p
+  unfolding wellShaped tablesShaped stateWith rigWith entriesShaped partsShaped
+  parts-decide p = rw shaped (by-bool (rigShaped (rigWith p)) (λ a. rw a) (λ a. rw a))
+
+  code-on : (p : Parts) (e : Event) → event (stateWith p) e .code ≡ codeOn p e
+  unfolding event tested codeOn stateWith
+  code-on p e =
+      by-bool (eqb (length (p .list)) messageLimit)
+      (λ a. rw (a, parts-decide p) (by-bool (partsShaped p) (λ b. rw b) (λ b. rw b)))
       (λ a. rw a)
 
-  misjudged-on : (ls : List Lent) → misjudged (map (withTables t) ls) ≡ misjudgedOn t ls
-  unfolding misjudged withTables misjudgedOn
+  misjudged-on : (ps : List Partial) → misjudged (map whole ps) ≡ misjudgedOn ps
+  unfolding misjudged whole misjudgedOn
   misjudged-on [] = refl
-  misjudged-on (l ∷ ls) = rw (code-on l, misjudged-on ls)
+  misjudged-on (p ∷ ps) = rw (code-on (p .parts) (p .event), misjudged-on ps)
 
 misjudged-append : (xs ys : List Case) → misjudged (xs ++ ys) ≡ misjudged xs ++ misjudged ys
 unfolding misjudged
@@ -67,32 +77,26 @@ Unchanged s e = event s e .next ≡ s
 
 -- refused with 10, and with 8
 abbrev RefusalsChangeNothing : Type 0
-RefusalsChangeNothing = Unchanged (heirIs 1 1 2 base) (Ask 2) × Unchanged (stored baseTables (many messageLimit) messageLimit) (Ask 2)
+RefusalsChangeNothing = Unchanged (heirIs 1 1 2 base) (Ask 2) × Unchanged (stateWith (full asIs)) (Ask 2)
 
 -- accepted on a list that had messages past its count: the messages, the two that site 2 sends, and zeros
 abbrev ZerosPastTheCount : Type 0
 ZerosPastTheCount =
-    event (stored baseTables (baseMessages ++ many (messageLimit - 3)) 3) (Ask 2) .next .list
+    event (stateWith (listIs (baseMessages ++ many (messageLimit - 3)) 3 asIs)) (Ask 2) .next .list
     ≡ baseMessages ++ (request 2 2 1 ∷ request 2 3 1 ∷ replicate (messageLimit - 5) blankMessage)
 
 -- what is calculated
-calculated :
-    (misjudged changedCases ≡ [])
-    × (tablesShaped baseTables ≡ true) × (misjudgedOn baseTables lentCases ≡ [])
-    × (tablesShaped spentTables ≡ true) × (misjudgedOn spentTables spentCases ≡ [])
-    × RefusalsChangeNothing × ZerosPastTheCount
-unfolding at put cell all any first withoutFirst member meet names sizeListed allName meetsEarlier allMeet setupCode keptSets freshRig freshTables deskOf withDesk withAccepted comesBefore headWith head requests asked handOn handOns left headOf nextHeir granted grantedHead clockRaised failFormer inquireOrFail answers queuedUp onRequest inquireIfBefore headNamed heirTakesOver holderReleases fromHolder isEarly earlyRelease onRelease onYield failedSet yielded allHeld entered taken enteredOrYielded takes onReply remembered yieldedOrRemembered onInquire mustYield yieldedIf yieldedUpTo onFail onTransfer between delivered isNumber isGiven setShaped modeShaped siteBlank siteShaped holderShaped arbiterShaped placeShaped rigShaped entryShaped ownShaped heirShaped queuedShaped everywhere numberShaped plainShaped releaseShaped aboutShaped messageShaped messagesShaped tablesShaped wellShaped actor sitesNamed takenOff attempt attempted numbersUpTo numbersFit limitCode padded acceptedState judged eventAt settled played tested event fresh site arbiter entry baseTables spentTables baseMessages stored base alike many onRig sizeIs acceptedIs setIs siteIs arbiterIs heldIs heirIs inquiredIs queuedIs atLimits misjudged codeOn misjudgedOn changedCases lentCases spentCases
-calculated = (refl, refl, refl, refl, refl, (refl, refl), refl)
+calculated : (misjudged wholeCases ≡ []) × (entriesShaped ≡ true) × (misjudgedOn partCases ≡ []) × RefusalsChangeNothing × ZerosPastTheCount
+unfolding at put cell all any first withoutFirst member meet names sizeListed allName meetsEarlier allMeet setupCode keptSets freshRig freshTables deskOf withDesk withAccepted comesBefore headWith head requests asked handOn handOns left headOf nextHeir granted grantedHead clockRaised failFormer inquireOrFail answers queuedUp onRequest inquireIfBefore headNamed heirTakesOver holderReleases fromHolder isEarly earlyRelease onRelease onYield failedSet yielded allHeld entered taken enteredOrYielded takes onReply remembered yieldedOrRemembered onInquire mustYield yieldedIf yieldedUpTo onFail onTransfer between delivered isNumber isGiven setShaped modeShaped siteBlank siteShaped holderShaped arbiterShaped placeShaped rigShaped entryShaped ownShaped heirShaped queuedShaped everywhere numberShaped plainShaped releaseShaped aboutShaped messageShaped messagesShaped tablesShaped wellShaped actor sitesNamed takenOff attempt attempted numbersUpTo numbersFit limitCode padded acceptedState judged eventAt settled played tested event fresh site arbiter entry baseSets baseHeld baseHeir baseQueued baseMessages asIs rigWith stateWith base siteIs arbiterIs acceptedIs listIs carries many full sizeIs setIs heldIs heirIs inquiredIs queuedIs atLimits alike misjudged wholeCases partCases codeOn misjudgedOn entriesShaped partsShaped
+calculated = (refl, refl, refl, (refl, refl), refl)
 
 -- no case gets another code than the one listed
 pub codes : misjudged cases ≡ []
 unfolding cases
-codes =
-    let (changed, base-shaped, on-base, spent-shaped, on-spent, _, _) = calculated in
-    rw (misjudged-append, misjudged-append, changed, misjudged-on baseTables base-shaped lentCases, on-base, misjudged-on spentTables spent-shaped spentCases, on-spent)
+codes = let (on-whole, shaped, on-parts, _, _) = calculated in rw (misjudged-append, on-whole, misjudged-on shaped partCases, on-parts)
 
 pub refusals-change-nothing : RefusalsChangeNothing
-refusals-change-nothing = calculated .5
+refusals-change-nothing = calculated .3
 
 pub zeros-past-the-count : ZerosPastTheCount
-zeros-past-the-count = calculated .6
+zeros-past-the-count = calculated .4
