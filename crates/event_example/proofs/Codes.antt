@@ -26,7 +26,7 @@ use Rattle.model.specs.Shape.{isNumber, isGiven, setShaped, modeShaped, siteBla
 use Rattle.model.specs.Event.{actor, sitesNamed, takenOff, attempt, attempted, numbersUpTo, numbersFit, limitCode, blankMessage, padded, acceptedState, judged, eventAt, settled, played, tested, event}
 use Rattle.model.specs.Run.{fresh}
 use Rattle.event_example.specs.States.{site, arbiter, entry, baseSets, baseHeld, baseHeir, baseQueued, baseMessages, Parts, asIs, rigWith, stateWith, base, siteIs, arbiterIs, acceptedIs, listIs, carries, many, full, sizeIs, setIs, heldIs, heirIs, inquiredIs, queuedIs, atLimits, alike}
-use Rattle.event_example.specs.Cases.{Case, misjudged, Partial, whole, wholeCases, partCases, cases}
+use Rattle.event_example.specs.Cases.{Case, misjudged, Partial, whole, wholeCases, partCases, spentCases, cases}
 
 -- the tables of numbers, which most cases share
 entriesShaped : Bool
@@ -86,17 +86,22 @@ ZerosPastTheCount =
     ≡ baseMessages ++ (request 2 2 1 ∷ request 2 3 1 ∷ replicate (messageLimit - 5) blankMessage)
 
 -- what is calculated
-calculated : (misjudged wholeCases ≡ []) × (entriesShaped ≡ true) × (misjudgedOn partCases ≡ []) × RefusalsChangeNothing × ZerosPastTheCount
-unfolding at put cell all any first withoutFirst member meet names sizeListed allName meetsEarlier allMeet setupCode keptSets freshRig freshTables deskOf withDesk withAccepted comesBefore headWith head requests asked handOn handOns left headOf nextHeir granted grantedHead clockRaised failFormer inquireOrFail answers queuedUp onRequest inquireIfBefore headNamed heirTakesOver holderReleases fromHolder isEarly earlyRelease onRelease onYield failedSet yielded allHeld entered taken enteredOrYielded takes onReply remembered yieldedOrRemembered onInquire mustYield yieldedIf yieldedUpTo onFail onTransfer between delivered isNumber isGiven setShaped modeShaped siteBlank siteShaped holderShaped arbiterShaped placeShaped rigShaped entryShaped ownShaped heirShaped queuedShaped everywhere numberShaped plainShaped releaseShaped aboutShaped messageShaped messagesShaped tablesShaped wellShaped actor sitesNamed takenOff attempt attempted numbersUpTo numbersFit limitCode padded acceptedState judged eventAt settled played tested event fresh site arbiter entry baseSets baseHeld baseHeir baseQueued baseMessages asIs rigWith stateWith base siteIs arbiterIs acceptedIs listIs carries many full sizeIs setIs heldIs heirIs inquiredIs queuedIs atLimits alike misjudged wholeCases partCases codeOn misjudgedOn entriesShaped partsShaped
-calculated = (refl, refl, refl, (refl, refl), refl)
+calculated :
+    (entriesShaped ≡ true)
+    × (misjudged wholeCases ≡ []) × (misjudgedOn partCases ≡ []) × (misjudgedOn spentCases ≡ [])
+    × RefusalsChangeNothing × ZerosPastTheCount
+unfolding at put cell all any first withoutFirst member meet names sizeListed allName meetsEarlier allMeet setupCode keptSets freshRig freshTables deskOf withDesk withAccepted comesBefore headWith head requests asked handOn handOns left headOf nextHeir granted grantedHead clockRaised failFormer inquireOrFail answers queuedUp onRequest inquireIfBefore headNamed heirTakesOver holderReleases fromHolder isEarly earlyRelease onRelease onYield failedSet yielded allHeld entered taken enteredOrYielded takes onReply remembered yieldedOrRemembered onInquire mustYield yieldedIf yieldedUpTo onFail onTransfer between delivered isNumber isGiven setShaped modeShaped siteBlank siteShaped holderShaped arbiterShaped placeShaped rigShaped entryShaped ownShaped heirShaped queuedShaped everywhere numberShaped plainShaped releaseShaped aboutShaped messageShaped messagesShaped tablesShaped wellShaped actor sitesNamed takenOff attempt attempted numbersUpTo numbersFit limitCode padded acceptedState judged eventAt settled played tested event fresh site arbiter entry baseSets baseHeld baseHeir baseQueued baseMessages asIs rigWith stateWith base siteIs arbiterIs acceptedIs listIs carries many full sizeIs setIs heldIs heirIs inquiredIs queuedIs atLimits alike misjudged wholeCases partCases spentCases codeOn misjudgedOn entriesShaped partsShaped
+calculated = (refl, refl, refl, refl, (refl, refl), refl)
 
 -- no case gets another code than the one listed
 pub codes : misjudged cases ≡ []
 unfolding cases
-codes = let (on-whole, shaped, on-parts, _, _) = calculated in rw (misjudged-append, on-whole, misjudged-on shaped partCases, on-parts)
+codes =
+    let (shaped, on-whole, on-parts, on-spent, _, _) = calculated in
+    rw (misjudged-append, misjudged-append, on-whole, misjudged-on shaped partCases, on-parts, misjudged-on shaped spentCases, on-spent)
 
 pub refusals-change-nothing : RefusalsChangeNothing
-refusals-change-nothing = calculated .3
+refusals-change-nothing = calculated .4
 
 pub zeros-past-the-count : ZerosPastTheCount
-zeros-past-the-count = calculated .4
+zeros-past-the-count = calculated .5

@@ -173,13 +173,7 @@ partCases =
     ∷ part "a leave by a waiting site" asIs (Leave 1) 6
     ∷ part "a leave by a site at rest" asIs (Leave 2) 6
     ∷ part "a delivery with nothing under way" asIs (Deliver 2 1) 7
-    -- then 9: the count of events, a clock, a grant number with a reply, one without
-    ∷ part "one event left" (acceptedIs (eventLimit - 1) asIs) (Ask 2) 0
-    ∷ part "an ask, no event left" (acceptedIs eventLimit asIs) (Ask 2) 9
-    ∷ part "an ask by site 0, no event left" (acceptedIs eventLimit asIs) (Ask 0) 4
-    ∷ part "an ask by a waiting site, no event left" (acceptedIs eventLimit asIs) (Ask 1) 5
-    ∷ part "a leave by a site at rest, no event left" (acceptedIs eventLimit asIs) (Leave 2) 6
-    ∷ part "a delivery with nothing under way, no event left" (acceptedIs eventLimit asIs) (Deliver 2 1) 7
+    -- then 9 for a number: a clock, a grant number with a reply, one without
     ∷ part "a clock one below the limit" (siteIs 2 Rest (numberLimit - 1) asIs) (Ask 2) 0
     ∷ part "a clock at the limit" (siteIs 2 Rest numberLimit asIs) (Ask 2) 9
     ∷ part "a grant one below the limit" (arbiterIs 2 (numberLimit - 1) 0 0 asIs) (Deliver 1 2) 0
@@ -195,5 +189,17 @@ partCases =
     ∷ part "two places left, and two to send" (listIs (padded (many (messageLimit - 2))) (messageLimit - 2) asIs) (Ask 2) 0
     ∷ []
 
+-- All events are accepted: 9, after 4 to 7
+
+unfoldable pub spentCases : List Partial
+spentCases =
+    part "one event left" (acceptedIs (eventLimit - 1) asIs) (Ask 2) 0
+    ∷ part "an ask, no event left" (acceptedIs eventLimit asIs) (Ask 2) 9
+    ∷ part "an ask by site 0, no event left" (acceptedIs eventLimit asIs) (Ask 0) 4
+    ∷ part "an ask by a waiting site, no event left" (acceptedIs eventLimit asIs) (Ask 1) 5
+    ∷ part "a leave by a site at rest, no event left" (acceptedIs eventLimit asIs) (Leave 2) 6
+    ∷ part "a delivery with nothing under way, no event left" (acceptedIs eventLimit asIs) (Deliver 2 1) 7
+    ∷ []
+
 unfoldable pub cases : List Case
-cases = wholeCases ++ map whole partCases
+cases = wholeCases ++ (map whole partCases ++ map whole spentCases)
