@@ -184,6 +184,37 @@ unfolding count
 count-some f zero h = absurd (h refl)
 count-some f (suc n) h = by-bool (f (suc n)) (λ e. (suc n, e)) (λ e. count-some f n (rw e at h))
 
+-- none pass exactly where not one passes
+pub count-any : (p : ℕ → Bool) (n : ℕ) → eqb (count p n) 0 ≡ not (any p n)
+unfolding count any
+count-any p zero = refl
+count-any p (suc n) =
+    by-bool (p (suc n))
+    (λ t. rw (t, or-second (any p n) true refl) (ne-eqb (suc (count p n)) 0 (λ z. omega arith)))
+    (λ t. by-bool (any p n) (λ u. rw (t, u) (rw u at (count-any p n))) (λ u. rw (t, u) (rw u at (count-any p n))))
+
+-- where at most one passes, two that pass are one
+pub count-unique : (p : ℕ → Bool) (n k l : ℕ) → count p n ≤ 1 → 1 ≤ k → k ≤ n → p k ≡ true → 1 ≤ l → l ≤ n → p l ≡ true → k ≡ l
+unfolding count
+count-unique p zero k l h a b e c d f = absurd (omega arith)
+count-unique p (suc n) k l h a b e c d f =
+    by-bool (p (suc n))
+    (λ t. let z = rw t at h in let x = last k z a b e in let y = last l z c d f in omega arith)
+    (λ t. count-unique p n k l (rw t at h) a (low t k b e) e c (low t l d f) f)
+  where
+    -- one that passes is not the last, where that one fails
+    low : p (suc n) ≡ false → (m : ℕ) → m ≤ suc n → p m ≡ true → m ≤ n
+    low t m b e = by-bool (eqb m (suc n)) (λ q. clash (p m) e (rw (eqb-true m (suc n) q) t)) (λ q. let ne = eqb-false m (suc n) q in omega arith)
+
+    -- it is the last, where none before that one passes
+    last : (m : ℕ) → suc (count p n) ≤ 1 → 1 ≤ m → m ≤ suc n → p m ≡ true → m ≡ suc n
+    last m h a b e =
+        by-bool (eqb m (suc n))
+        (λ q. eqb-true m (suc n) q)
+        (λ q. let ne = eqb-false m (suc n) q in
+        let z = rw (any-of p n m a (omega arith) e) at (count-any p n) in
+        absurd (eqb-false (count p n) 0 z (omega arith)))
+
 -- of the marked sites there is one before which no marked site comes
 module _ (before : ℕ → ℕ → Bool) (irreflexive : (x : ℕ) → before x x ≡ false) (transitive : (x y z : ℕ) → before x y ≡ true → before y z ≡ true → before x z ≡ true) where
   pub record Least (p : ℕ → Bool) (n : ℕ) : Type 0 where

@@ -24,3 +24,4 @@ pub mod Weights
 pub mod Accounting
 pub mod Settling
 pub mod Fullest
+pub mod FromDemand3

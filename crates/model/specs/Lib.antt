@@ -16,3 +16,4 @@ pub mod Run
 pub mod Printed
 pub mod Always
 pub mod Settling
+pub mod Corollaries

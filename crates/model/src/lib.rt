@@ -1,14 +1,23 @@
 // Document 01 as definitions, in specs/, and what holds of every run of them, in proofs/. Every contract of the other crates cites
-// the definitions; the three functions below have the claims about runs as their contracts, so that these are checked
+// the definitions; the functions below have the claims about runs as their contracts, so that these are checked
 // with the code and show in the list of proved functions. Each answers 0.
 ghost use mathlib.Core.Path.{_≡_};
 ghost use Rattle.model.specs.Run.{Demand3};
+ghost use Rattle.model.specs.Corollaries.{Corollaries};
 ghost use Rattle.model.specs.Always.{AlwaysShaped, AlwaysLong, NumbersSmall, NineByCount, NeverStray};
 ghost use Rattle.model.specs.Settling.{Settles, DeliveriesEnd, DeliveriesFew, MeasureBounded, MeasureReached, Deliverable, SettledServes};
 
 // Demand 3: after every event of every run, at most one site is inside, every permission is in one place, and no rig is stuck.
 pub fn demand_3() -> u8
     ensures { λ r. ⌜ (r ≡ 0) × Demand3 ⌝ }
+{
+    0
+}
+
+// What demand 3 alone says of the sites and the arbiters one by one: two sites inside are one site; the permissions of arbiter 1 and of
+// arbiter N are in one place; where nothing is under way and a site waits, a site is inside.
+pub fn corollaries() -> u8
+    ensures { λ r. ⌜ (r ≡ 0) × Corollaries ⌝ }
 {
     0
 }

@@ -1,0 +1,2 @@
+-- The codes of the cases, by calculation.
+pub mod Codes
