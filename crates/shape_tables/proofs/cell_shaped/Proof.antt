@@ -1,8 +1,9 @@
 -- `cell_shaped`: 0, an heir, or a number of a member.
-use mathlib.Core.Path.{sym}
+use mathlib.Core.Path.{_≡_, sym}
+use mathlib.Core.Bool.{false}
 use borrow.Author.Tests.{eq-eqb, ne-eqb}
 use Rattle.basics.proofs.Tests.{failed, passed, and-failed, and-passed}
-use Rattle.model.specs.Shape.{heirShaped}
+use Rattle.model.specs.Shape.{isNumber, heirShaped}
 use Rattle.shape_tables.specs.Cells.{cellShaped}
 use Rattle.shape_tables.proofs.Cells.{cell-given, cell-none}
 use borrow.Author.Needs.{needs}
@@ -24,8 +25,9 @@ is-number-requires c κs = search needs
 
 returns-3 : tie.Need-returns-3
 returns-3 c =
+    let past : isNumber (c .before .before .before .before .args .n) ≡ false = failed (c .before .is-number .ensures) (c .if3 .taken) in
     rw (cell-given _ _ _ _ _ (ne-eqb _ _ (c .before .before .if2 .left)) (ne-eqb _ 0 (c .before .before .before .if1 .left)))
-    (and-failed _ (failed (c .before .is-number .ensures) (c .if3 .taken)))
+    (and-failed _ past)
 
 tied-requires : tie.Need-tied-requires
 tied-requires c κs = search needs
