@@ -1,6 +1,10 @@
 -- `holder_shaped`: no holder, or one that is tied.
+use mathlib.Core.Path.{_≡_}
+use mathlib.Core.Bool.{false}
+use denote.Ref.{now}
 use borrow.Author.Tests.{eq-eqb, ne-eqb}
 use Rattle.basics.proofs.Tests.{failed, passed, and-failed, and-passed}
+use Rattle.model.specs.State.{hasMember}
 use Rattle.model.specs.Shape.{holderShaped}
 use borrow.Author.Needs.{needs}
 use Rattle.shape_places.proofs.holder_shaped.Statement.{statement}
@@ -15,7 +19,10 @@ tied-requires c κs = search needs
 
 returns-2 : tie.Need-returns-2
 unfolding holderShaped
-returns-2 c = rw (ne-eqb _ 0 (c .before .before .if1 .left)) (and-failed _ (failed (c .before .tied .ensures) (c .if2 .taken)))
+returns-2 c =
+    let a = c .before .before .before .before .args in
+    let untied : hasMember (now (a .sets)) (a .a .holder) (a .j) ≡ false = failed (c .before .tied .ensures) (c .if2 .taken) in
+    rw (ne-eqb _ 0 (c .before .before .if1 .left)) (and-failed _ untied)
 
 is-given-requires : tie.Need-is-given-requires
 is-given-requires c κs = search needs

@@ -4,11 +4,11 @@ use mathlib.Core.Bool.{false}
 use borrow.Author.Tests.{eq-eqb, ne-eqb}
 use Rattle.basics.proofs.Tests.{failed, passed, and-failed, and-passed}
 use Rattle.model.specs.Shape.{isNumber, heirShaped}
-use Rattle.shape_tables.specs.Cells.{cellShaped}
-use Rattle.shape_tables.proofs.Cells.{cell-given, cell-none}
+use Rattle.shape_cells.specs.Cells.{cellShaped}
+use Rattle.shape_cells.proofs.Cells.{cell-given, cell-none}
 use borrow.Author.Needs.{needs}
-use Rattle.shape_tables.proofs.cell_shaped.Statement.{statement}
-use Rattle.shape_tables.proofs.cell_shaped.Tie as tie
+use Rattle.shape_cells.proofs.cell_shaped.Statement.{statement}
+use Rattle.shape_cells.proofs.cell_shaped.Tie as tie
 
 returns : tie.Need-returns
 returns c = rw (c .if1 .taken) (sym (cell-none _ _ _ _))
