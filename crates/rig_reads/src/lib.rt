@@ -49,6 +49,7 @@ pub fn both_tied(sets: &[u64; Rig::SITES], k: u64, heir: u64, j: u64) -> bool
     }
     tied(sets, heir, j)
 }
+
 // One of the sites 1 to N.
 pub fn is_site(size: u64, k: u64) -> bool
     ensures { λ r. ⌜ r ≡ inRange size k ⌝ }

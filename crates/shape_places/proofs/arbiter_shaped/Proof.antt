@@ -1,5 +1,5 @@
 -- `arbiter_shaped`: its three tests.
-use mathlib.Core.Path.{sym, _∙_}
+use mathlib.Core.Path.{refl, sym, _∙_}
 use Rattle.basics.proofs.Tests.{failed, passed, and-failed, and-passed}
 use Rattle.model.specs.Shape.{arbiterShaped}
 use borrow.Author.Needs.{needs}
@@ -42,7 +42,7 @@ returns-4 c =
     let one = two .before .before in
     and-passed (passed (one .before .is-number .ensures) (one .if1 .left))
     (and-passed (passed (two .before .holder-shaped .ensures) (two .if2 .left))
-    (rw (sym (past .before .is-site .ensures) ∙ past .if3 .left)))
+    (rw (sym (past .before .is-site .ensures) ∙ past .if3 .left) refl))
 
 pub arbiter-shaped-spec : {M : Type 1} → statement M
 arbiter-shaped-spec =
