@@ -1,8 +1,8 @@
 // What a printed line says of a rig's sites: which one is inside, and how many wait.
 use rig::Rig;
 use rig::Site;
-use rig_reads::is_inside;
-use rig_reads::is_waiting;
+use rig_modes::is_inside;
+use rig_modes::is_waiting;
 ghost use mathlib.Core.Path.{_≡_};
 ghost use mathlib.Core.Bool.{cond};
 ghost use Prim.Native.Nat.{suc, min, _<_};

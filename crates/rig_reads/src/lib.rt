@@ -1,12 +1,10 @@
-// What the numbers of a rig say: a set's members, a number's range, a site's mode.
-use rig::Mode;
+// What the numbers of a rig say: a set's members, the range of a site and of a number.
 use rig::Rig;
-use rig::Site;
 ghost use mathlib.Core.Path.{_≡_};
 ghost use mathlib.Core.Bool.{_&&_};
 ghost use Rattle.model.specs.Sets.{member};
 ghost use Rattle.model.specs.Tables.{at};
-ghost use Rattle.model.specs.State.{inRange, hasMember, isResting, isWaiting, isInside, seqIn, failedIn};
+ghost use Rattle.model.specs.State.{inRange, hasMember};
 ghost use Rattle.model.specs.Shape.{isNumber, isGiven};
 
 // Site j is a member of the set.
@@ -51,6 +49,7 @@ pub fn both_tied(sets: &[u64; Rig::SITES], k: u64, heir: u64, j: u64) -> bool
     }
     tied(sets, heir, j)
 }
+
 // One of the sites 1 to N.
 pub fn is_site(size: u64, k: u64) -> bool
     ensures { λ r. ⌜ r ≡ inRange size k ⌝ }
@@ -70,63 +69,4 @@ pub fn is_given(n: u64) -> bool
     ensures { λ r. ⌜ r ≡ isGiven n ⌝ }
 {
     1 <= n && n <= Rig::NUMBERS
-}
-// Whether the site is at rest.
-pub fn is_resting(s: Site) -> bool
-    ensures { λ r. ⌜ r ≡ isResting (s .mode) ⌝ }
-{
-    let m = s.mode;
-    match m {
-        Mode::Rest => true,
-        Mode::Waiting { seq: _, failed: _ } => false,
-        Mode::Inside => false,
-    }
-}
-
-// Whether the site waits.
-pub fn is_waiting(s: Site) -> bool
-    ensures { λ r. ⌜ r ≡ isWaiting (s .mode) ⌝ }
-{
-    let m = s.mode;
-    match m {
-        Mode::Rest => false,
-        Mode::Waiting { seq: _, failed: _ } => true,
-        Mode::Inside => false,
-    }
-}
-
-// Whether the site is inside.
-pub fn is_inside(s: Site) -> bool
-    ensures { λ r. ⌜ r ≡ isInside (s .mode) ⌝ }
-{
-    let m = s.mode;
-    match m {
-        Mode::Rest => false,
-        Mode::Waiting { seq: _, failed: _ } => false,
-        Mode::Inside => true,
-    }
-}
-
-// The sequence number of its ask; 0 where it does not wait.
-pub fn seq_in(s: Site) -> u64
-    ensures { λ r. ⌜ r ≡ seqIn (s .mode) ⌝ }
-{
-    let m = s.mode;
-    match m {
-        Mode::Rest => 0,
-        Mode::Waiting { seq, failed: _ } => seq,
-        Mode::Inside => 0,
-    }
-}
-
-// Its failed mark; false where it does not wait.
-pub fn has_failed(s: Site) -> bool
-    ensures { λ r. ⌜ r ≡ failedIn (s .mode) ⌝ }
-{
-    let m = s.mode;
-    match m {
-        Mode::Rest => false,
-        Mode::Waiting { seq: _, failed } => failed,
-        Mode::Inside => false,
-    }
 }

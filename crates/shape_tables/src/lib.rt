@@ -3,9 +3,7 @@
 use rig::Rig;
 use rig::Table;
 use rig::Tables;
-use rig_reads::both_tied;
-use rig_reads::is_number;
-use rig_reads::tied;
+use shape_cells::cell_shaped;
 ghost use mathlib.Core.Path.{_≡_};
 ghost use mathlib.Core.Bool.{_&&_};
 ghost use mathlib.Core.List.{[]};
@@ -15,7 +13,7 @@ ghost use Rattle.rig.specs.Limits.{siteLimit, HELD, HEIR, INQUIRED, QUEUED};
 ghost use Rattle.basics.specs.Helpers.{all};
 ghost use Rattle.model.specs.Tables.{at};
 ghost use Rattle.model.specs.Shape.{ownShaped, heirShaped, queuedShaped, everywhere};
-ghost use Rattle.shape_tables.specs.Cells.{cellShaped};
+ghost use Rattle.shape_cells.specs.Cells.{cellShaped};
 
 // Whether all entries of a row are 0.
 fn is_blank(row: &[u64; Rig::SITES]) -> bool
@@ -26,25 +24,6 @@ fn is_blank(row: &[u64; Rig::SITES]) -> bool
         any = any | row[b];
     }
     any == 0
-}
-
-// The entry n in row a and column b: 0, an heir, or a number, of a site and an arbiter in its set.
-fn cell_shaped(which: usize, sets: &[u64; Rig::SITES], a: u64, b: u64, n: u64) -> bool
-    ensures { λ r. ⌜ r ≡ cellShaped which (now (sets .entry)) a b n ⌝ }
-{
-    if n == 0 {
-        return true;
-    }
-    if which == Rig::HEIR {
-        return both_tied(sets, a, n, b);
-    }
-    if !is_number(n) {
-        return false;
-    }
-    if which == Rig::QUEUED {
-        return tied(sets, b, a);
-    }
-    tied(sets, a, b)
 }
 
 // Row a. Most rows are blank, and every test passes 0.

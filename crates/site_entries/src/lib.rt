@@ -32,7 +32,7 @@ pub fn failed_set(d: Desk) -> Desk
     let s = d.site;
     let site = Site {
         mode: Mode::Waiting {
-            seq: rig_reads::seq_in(s),
+            seq: rig_modes::seq_in(s),
             failed: true,
         },
         clock: s.clock,

@@ -29,7 +29,7 @@ fn yield_or_remember(d: Desk, j: u64, n: u64, out: &mut [Row], count: usize) -> 
         };
     }
     let s = d.site;
-    if rig_reads::has_failed(s) {
+    if rig_modes::has_failed(s) {
         return site_yields::yield_member(d, j, out, count);
     }
     Acted {
@@ -44,7 +44,7 @@ pub fn on_inquire(d: Desk, j: u64, n: u64, out: &mut [Row], count: usize) -> Act
     ensures { λ r. ⌜ CarriesOut (onInquire d j n) count (now (out .entry)) (now (out .exit)) r ⌝ }
 {
     let s = d.site;
-    if !rig_reads::is_waiting(s) {
+    if !rig_modes::is_waiting(s) {
         return Acted {
             desk: d,
             count: count,
@@ -59,7 +59,7 @@ pub fn on_fail(d: Desk, out: &mut [Row], count: usize) -> Acted
     ensures { λ r. ⌜ CarriesOut (onFail d) count (now (out .entry)) (now (out .exit)) r ⌝ }
 {
     let s = d.site;
-    if !rig_reads::is_waiting(s) {
+    if !rig_modes::is_waiting(s) {
         return Acted {
             desk: d,
             count: count,

@@ -20,7 +20,7 @@ fn enter_or_yield(d: Desk, j: u64, out: &mut [Row], count: usize) -> Acted
         };
     }
     let s = d.site;
-    if !rig_reads::has_failed(s) {
+    if !rig_modes::has_failed(s) {
         return Acted {
             desk: d,
             count: count,
@@ -43,7 +43,7 @@ pub fn on_reply(d: Desk, j: u64, n: u64, out: &mut [Row], count: usize) -> Acted
     ensures { λ r. ⌜ CarriesOut (onReply d j n) count (now (out .entry)) (now (out .exit)) r ⌝ }
 {
     let s = d.site;
-    if !rig_reads::is_waiting(s) {
+    if !rig_modes::is_waiting(s) {
         return Acted {
             desk: d,
             count: count,

@@ -1,4 +1,5 @@
 -- `actor`: by cases.
+use mathlib.Core.Path.{refl}
 use borrow.Author.Needs.{needs}
 use Rattle.model.specs.Event.{actor}
 use Rattle.event_sites.proofs.actor.Statement.{statement}
@@ -23,7 +24,7 @@ returns-2 c = rw (c .before .e2 .given .1)
 
 returns-3 : tie.Need-returns-3
 unfolding actor
-returns-3 c = rw (c .before .e3 .given .1)
+returns-3 c = rw (c .before .e3 .given .1) refl
 
 pub actor-spec : {M : Type 1} → statement M
 actor-spec =

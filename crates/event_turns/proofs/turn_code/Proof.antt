@@ -4,8 +4,8 @@ use borrow.Author.Needs.{needs}
 use Rattle.event_turns.specs.Turns.{turnCode}
 use Rattle.event_turns.proofs.turn_code.Statement.{statement}
 use Rattle.event_turns.proofs.turn_code.Tie as tie
-use Rattle.rig_reads.proofs.is_inside.Reads as is-inside-reads
-use Rattle.rig_reads.proofs.is_resting.Reads as is-resting-reads
+use Rattle.rig_modes.proofs.is_inside.Reads as is-inside-reads
+use Rattle.rig_modes.proofs.is_resting.Reads as is-resting-reads
 
 is-resting-requires : tie.Need-is-resting-requires
 is-resting-requires c κs = search needs

@@ -8,7 +8,7 @@ use lib.Dec.{eqb}
 use Rattle.rig.specs.Limits.{siteLimit}
 use Rattle.basics.specs.Helpers.{all}
 use Rattle.model.specs.Tables.{at}
-use Rattle.shape_tables.proofs.Cells.{or-zero}
+use Rattle.shape_tables.proofs.Blank.{or-zero}
 use borrow.Author.Needs.{needs}
 use Rattle.shape_tables.proofs.is_blank.Statement.{statement}
 use Rattle.shape_tables.proofs.is_blank.Tie as tie

@@ -10,8 +10,8 @@ use Rattle.basics.specs.Helpers.{all}
 use Rattle.basics.proofs.Basics.{all-fails, all-more}
 use Rattle.basics.proofs.Tests.{failed, passed}
 use Rattle.model.specs.Tables.{at}
-use Rattle.shape_tables.specs.Cells.{cellShaped}
-use Rattle.shape_tables.proofs.Cells.{row-none}
+use Rattle.shape_cells.specs.Cells.{cellShaped}
+use Rattle.shape_tables.proofs.Blank.{row-none}
 use borrow.Author.Needs.{needs}
 use Rattle.shape_tables.proofs.row_shaped.Statement.{statement}
 use Rattle.shape_tables.proofs.row_shaped.Tie as tie

@@ -11,7 +11,7 @@ use Rattle.basics.proofs.Basics.{all-fails, all-more}
 use Rattle.basics.proofs.Tests.{failed, passed}
 use Rattle.model.specs.Tables.{at, cell}
 use Rattle.model.specs.Shape.{everywhere}
-use Rattle.shape_tables.specs.Cells.{cellShaped}
+use Rattle.shape_cells.specs.Cells.{cellShaped}
 use borrow.Author.Needs.{needs}
 use Rattle.shape_tables.proofs.table_shaped.Statement.{statement}
 use Rattle.shape_tables.proofs.table_shaped.Tie as tie

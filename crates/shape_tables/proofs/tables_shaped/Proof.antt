@@ -1,6 +1,13 @@
 -- `tables_shaped`: its four tests, in the order of the definition.
+use mathlib.Core.Path.{_≡_}
+use mathlib.Core.Bool.{false}
+use mathlib.Core.List.{[]}
+use denote.Ref.{now}
+use lib.ListN.{getD}
+use Rattle.rig.specs.Limits.{INQUIRED}
 use Rattle.basics.proofs.Tests.{failed, passed, and-failed, and-passed}
-use Rattle.shape_tables.specs.Cells.{cellShaped}
+use Rattle.model.specs.Shape.{ownShaped, everywhere}
+use Rattle.shape_cells.specs.Cells.{cellShaped}
 use borrow.Author.Needs.{needs}
 use Rattle.shape_tables.proofs.tables_shaped.Statement.{statement}
 use Rattle.shape_tables.proofs.tables_shaped.Tie as tie
@@ -38,9 +45,11 @@ unfolding cellShaped
 returns-3 c =
     let two = c .before .before .before in
     let one = two .before .before .before in
+    let a = one .before .before .before .args in
+    let inquired : everywhere (ownShaped (now (a .sets))) (getD (now (a .tables)) INQUIRED []) ≡ false = failed (c .before .table-shaped3 .ensures) (c .if3 .taken) in
     and-passed (passed (one .before .table-shaped .ensures) (one .if1 .left))
     (and-passed (passed (two .before .table-shaped2 .ensures) (two .if2 .left))
-    (and-failed _ (failed (c .before .table-shaped3 .ensures) (c .if3 .taken))))
+    (and-failed _ inquired))
 
 index-1-table-shaped-4 : tie.Need-index-1-table-shaped-4
 index-1-table-shaped-4 c = search needs
