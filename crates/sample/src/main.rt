@@ -1,4 +1,4 @@
-// Calls the engine as README.md shows: the printed example of document 01, its 13 events in turn, a printed line for each.
+// The printed example of document 01, on the engine: its 13 events in turn, and a line for each.
 use libc::STDOUT_FILENO;
 use player_counts::inside;
 use player_counts::waiting;
@@ -21,8 +21,7 @@ fn main() {
     }
 }
 
-// Plays the events on a fresh rig. The first gets the count 0; each later one the rig and the count that the one before it answered, and
-// the same tables and list.
+// Plays the events on a fresh rig: the first with nothing under way, each later one with what the one before it left.
 fn play(fresh: Rig) {
     let mut rig = fresh;
     let mut tables = Rig::blank();
