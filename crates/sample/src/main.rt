@@ -8,7 +8,9 @@ use rig::Answer;
 use rig::Event;
 use rig::Message;
 use rig::Rig;
-ghost use Prim.Native.Nat.{_<_};
+ghost use Prim.Native.Nat.{_<_, _≤_};
+ghost use Rattle.model.specs.Run.{insideCount};
+ghost use Rattle.sample.specs.Fresh.{Fresh};
 
 // Sites 1 and 2. The request set of each is site 1 alone: bit 0.
 fn main() {
@@ -22,7 +24,9 @@ fn main() {
 }
 
 // Plays the events on a fresh rig: the first with nothing under way, each later one with what the one before it left.
-fn play(fresh: Rig) {
+fn play(fresh: Rig)
+    requires { ⌜ Fresh fresh ⌝ }
+{
     let mut rig = fresh;
     let mut tables = Rig::blank();
     let mut list = [Message {
@@ -62,8 +66,10 @@ fn event_at(i: usize) -> Event
     events[i]
 }
 
-// As `step=1 code=0 inside=0 waiting=1 flying=1`.
-fn print_line(step: u64, r: Answer) {
+// As `step=1 code=0 inside=0 waiting=1 flying=1`. A line names one site inside: that there is no other is asked, and proved at the call.
+fn print_line(step: u64, r: Answer)
+    requires { ⌜ insideCount (r .rig) ≤ 1 ⌝ }
+{
     let mut page = [0; PAGE_LENGTH];
     let rig = r.rig;
     let n = step_line(
