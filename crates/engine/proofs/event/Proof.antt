@@ -264,9 +264,9 @@ module _ {M : Type 1} (𝓤 : URA M) (H : Heap 𝓤) (A : Atoms 𝓤) (W : Given
       nothing ! $ move ! (2 ∷ 0 ∷ []) $ join ! $ move ! (1 ∷ 0 ∷ []) $ join ! $ frame ! $
       nothing ! $ nothing ! $ fjoin ! $ nothing ! $ move ! (0 ∷ 1 ∷ []) $ fjoin ! $ move ! (2 ∷ 0 ∷ []) $ fjoin ! $ move ! (1 ∷ 0 ∷ []) $ fjoin ! $ nothing ! $ fjoin ! $ frame ! $
       owned ! K.the-row (Is K.the-row) (LL.makes K.the-type K′.the-plain 𝓤 H A) r _ gr $ done !
-      where
-        keeps : KeepsRun (stored g (t .now) ys n) e (answered r ts zs .next)
-        keeps = subst (λ (a : Model.Answer). KeepsRun (stored g (t .now) ys n) e (a .next)) (sym said) (keeps-run (stored g (t .now) ys n) e)
+    where
+      keeps : KeepsRun (stored g (t .now) ys n) e (answered r ts zs .next)
+      keeps = subst (λ (a : Model.Answer). KeepsRun (stored g (t .now) ys n) e (a .next)) (sym said) (keeps-run (stored g (t .now) ys n) e)
 
   -- ---- what each callee is passed, and that it is had; and of what it ensures, the clause alone
   abbrev to-code : ListCode 𝓤 H A mem′ run .Ghost
