@@ -8,9 +8,9 @@ use rig::Answer;
 use rig::Event;
 use rig::Message;
 use rig::Rig;
-ghost use Prim.Native.Nat.{_<_, _≤_};
-ghost use Rattle.model.specs.Run.{insideCount};
-ghost use Rattle.sample.specs.Fresh.{Fresh};
+ghost use Prim.Native.Nat.{ℕ, _<_, _≤_};
+ghost use mathlib.Core.List.{List};
+ghost use Rattle.model.specs.Run.{StartsRun, insideCount};
 
 // Sites 1 and 2. The request set of each is site 1 alone: bit 0.
 fn main() {
@@ -23,9 +23,9 @@ fn main() {
     }
 }
 
-// Plays the events on a fresh rig: the first with nothing under way, each later one with what the one before it left.
+// Plays the events on a fresh rig, one that starts a run: the first with nothing under way, each later one with what the one before it left.
 fn play(fresh: Rig)
-    requires { ⌜ Fresh fresh ⌝ }
+    requires { ⌜ ((n : ℕ) × (sets : List ℕ) × StartsRun n sets fresh) ⌝ }
 {
     let mut rig = fresh;
     let mut tables = Rig::blank();
@@ -66,7 +66,7 @@ fn event_at(i: usize) -> Event
     events[i]
 }
 
-// As `step=1 code=0 inside=0 waiting=1 flying=1`. A line names one site inside: that there is no other is asked, and proved at the call.
+// As `step=1 code=0 inside=0 waiting=1 flying=1`. A line names one site inside, so no two may be: the call in `play` is proved to keep to it.
 fn print_line(step: u64, r: Answer)
     requires { ⌜ insideCount (r .rig) ≤ 1 ⌝ }
 {

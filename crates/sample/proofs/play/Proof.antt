@@ -1,8 +1,7 @@
 -- `play`: a walk of its MIR, by hand, with a loop. Each turn lends two locals to `engine::event`, the tables as one array and the list as a slice, each for a lifetime made for the call,
 -- and takes them back as the call left them. At each turn they are the state of a run, so that after the call at most one site is inside.
 use mathlib.Core.Path.{_≡_, refl, sym, ap, subst, _∙_}
-use Prim.Native.Nat.{ℕ, _+_, _-_, _<_, _≤_, _^_, zero-le}
-use native.Mathlib.Numerals.{add-one-le}
+use Prim.Native.Nat.{ℕ, _+_, _-_, _<_, _≤_, _^_}
 use mathlib.Core.WellFounded.{WellFounded, InvImage·wf}
 use mathlib.Core.List.{List, [], _∷_}
 use lib.ListN.{length, replicate}
@@ -56,13 +55,10 @@ use Rattle.rig.specs.declared.Event.{Event}
 use Rattle.rig.specs.declared.Message.{Message}
 use Rattle.rig.specs.declared.Answer.{Answer}
 use Rattle.rig.specs.Limits.{blankTables}
+use Rattle.model.specs.State.{stored}
 use Rattle.model.specs.Event as Model
-use Rattle.model.specs.Setup.{freshRig}
-use Rattle.model.specs.Run.{fresh, run as run-of, OfRun, insideCount}
-use Rattle.model.specs.State.{freshTables}
-use Rattle.model.proofs.OfRun.{next-of-run, run-sound}
-use Rattle.engine.specs.Lent.{stored, answered}
-use Rattle.sample.specs.Fresh.{Fresh}
+use Rattle.model.specs.Run.{OfRun, StartsRun, KeepsRun, insideCount}
+use Rattle.engine.specs.Lent.{answered}
 use Rattle.rig.proofs.Rig as G
 use Rattle.rig.proofs.Rig.Laws as G′
 use Rattle.rig.proofs.Event as E
@@ -140,7 +136,6 @@ none-is = LL.owes T.the-type T′.the-laws none ((refl, lit< tt), ((refl, lit< t
 -- what a turn of the loop begins with: its number, the rig, the tables, the list, and how many messages are under way
 record Before : Type 0 where
   i : ℕ
-  upto : i ≤ 13
   rig : Rig
   rig-is : Is G.the-row rig (rig-vals rig)
   tabs : List (List (List ℕ))
@@ -157,19 +152,18 @@ Nearer t s = 13 - t .i < 13 - s .i
 Nearer-wf : WellFounded Nearer
 Nearer-wf = InvImage·wf (λ (s : Before). 13 - s .i) (Nat·lt-wfRel .wf)
 
--- the fresh rig, with blank tables and nothing under way, begins a run; an answer goes on with it; and in each state of it at most one site is inside
-begins : (g : Rig) (ts : List (List (List ℕ))) (ys : List Message) → Fresh g → ts ≡ blankTables → OfRun (stored g ts ys 0)
-unfolding fresh run-of freshTables
-begins g ts ys f e = record { size = f .size; sets = f .sets; list = ys; events = []; passed = f .passed; same = ap (λ (h : Rig). stored h ts ys 0) (f .same) ∙ ap (λ (us : List (List (List ℕ))). stored (freshRig (f .size) (f .sets)) us ys 0) e }
+-- a rig that starts a run, as setup promises it
+abbrev Starts : Rig → Type 0
+Starts g = (n : ℕ) × (sets : List ℕ) × StartsRun n sets g
 
+begins : (g : Rig) (ts : List (List (List ℕ))) (ys : List Message) → Starts g → ts ≡ blankTables → OfRun (stored g ts ys 0)
+begins g ts ys made e = subst (λ (us : List (List (List ℕ))). OfRun (stored g us ys 0)) (sym e) (made .2 ys .1)
+
+-- what `engine::event` promises of its answer, the tables and the list
 abbrev Says : Before → Event → Answer → List (List (List ℕ)) → List Message → Type 0
-Says s e r ts ys = answered r ts ys ≡ Model.event (stored (s .rig) (s .tabs) (s .list) (s .count)) e
-
-goes-on : (s : Before) (e : Event) (r : Answer) (ts : List (List (List ℕ))) (ys : List Message) → Says s e r ts ys → OfRun (stored (r .rig) ts ys (r .count))
-goes-on s e r ts ys p = subst (λ (a : Model.Answer). OfRun (a .next)) (sym p) (next-of-run (s .of-run) e)
-
-one-inside : (r : Answer) (ts : List (List (List ℕ))) (ys : List Message) → OfRun (stored (r .rig) ts ys (r .count)) → insideCount (r .rig) ≤ 1
-one-inside r ts ys o = run-sound o .exclusion
+Says s e r ts ys =
+    let came = stored (s .rig) (s .tabs) (s .list) (s .count) in
+    (answered r ts ys ≡ Model.event came e) × KeepsRun came e (answered r ts ys .next)
 
 -- a local array is what lies in memory, which is lent, and back
 module _ {M : Type 1} (𝓤 : URA M) (H : Heap 𝓤) (A : Atoms 𝓤) (W : Given 𝓤 H A) (R : RattleType) (n : ℕ) (spell : R .Denot → List Val) where
@@ -267,7 +261,7 @@ module _ {M : Type 1} (𝓤 : URA M) (H : Heap 𝓤) (A : Atoms 𝓤) (W : Given
   list-room : (s : Before) → Room T.the-row (length (s .list))
   list-room s = subst (Room T.the-row) (sym (list-long s)) (lit< tt, lit< tt)
 
-  module _ (g : Rig) (gg : Is G.the-row g (rig-vals g)) (made : Fresh g) where
+  module _ (g : Rig) (gg : Is G.the-row g (rig-vals g)) (made : Starts g) where
     abbrev Post : Val → SProp 𝓤
     Post = walkOf 𝓤 H A play.ended stayed (play.clauses 𝓤 H A mem′ run) .post ((tt, tt, tt, (g, tt), (rig-vals g, tt)), tt)
 
@@ -362,7 +356,7 @@ module _ {M : Type 1} (𝓤 : URA M) (H : Heap 𝓤) (A : Atoms 𝓤) (W : Given
             -- its line is printed
             assigns ! (of-opd ! (load ! (from ! (stop !)) (look ! 24 refl))) (from ! (stop !)) (init ! 4 refl (tt, record { fits = fits-below (s .i) 13 (below less) (lit< tt) })) $
             assigns ! (bin ! (load ! (from ! (stop !)) (look ! 4 refl)) (lit ! tt) (record { fits = next less })) (from ! (stop !)) (init ! 2 refl (tt, record { fits = next less })) $
-            use0 W (raw (PrintLine 𝓤 H A mem′ run .pre (to-print (s .i + 1) r))) (goes-print (s .i + 1) r (next less) (answer-is v₂ r is₂) (one-inside r (ws .1 .0) (ws .1 .1 .0) (goes-on s e r (ws .1 .0) (ws .1 .1 .0) p))) $
+            use0 W (raw (PrintLine 𝓤 H A mem′ run .pre (to-print (s .i + 1) r))) (goes-print (s .i + 1) r (next less) (answer-is v₂ r is₂) (p .1 (s .of-run) .2 .exclusion)) $
             calls-at ! (fmOf 𝓤 H (W .laws) 𝓣) (PrintLine 𝓤 H A mem′ run) known-print (to-print (s .i + 1) r) (and-then ! (load ! (from ! (stop !)) (look ! 3 refl)) (and-then ! (load ! (from ! (stop !)) (look ! 23 refl)) (no-more !))) (λ v₃.
             use1 W (later (some (λ (u : Unit {0}). (‵ ftrue ⊛ ‵ (unit .own u (v₃ ∷ []))) ⊛ raw (ensured 𝓤 H A print-line.ended (print-line.clauses 𝓤 H A mem′ run) tt (s .i + 1, (r, tt)) tt u)))) (id⊢ 𝓤 _) $ await ! tt $ pick ! (λ u.
             split ! $ move ! (1 ∷ []) $ drop ! $ split ! $ drop ! $ facts ! unit (Is unit) (shows 𝓤 H A unit) u (v₃ ∷ []) (λ is₃.
@@ -372,7 +366,7 @@ module _ {M : Type 1} (𝓤 : URA M) (H : Heap 𝓤) (A : Atoms 𝓤) (W : Given
             assigns ! (of-opd ! (load ! (from ! (fld ! refl (stop !))) (look-in ! 22 (sub ! 2 refl (whole !))))) (from ! (stop !)) (store ! 26 refl (tt, record { fits = count-fits v₂ r is₂ })) $
             assigns-last ! (bin ! (load ! (from ! (stop !)) (look ! 24 refl)) (lit ! tt) (record { fits = next less })) (from ! (stop !)) (store ! 24 refl (tt, record { fits = next less })) $
             forget ! 2 refl $ forget ! 4 refl $ forget ! 6 refl $ forget ! 8 refl $ forget ! 10 refl $ forget ! 12 refl $ forget ! 14 refl $ forget ! 16 refl $ forget ! 22 refl $
-            again ! Nearer Turn s (record { i = s .i + 1; upto = add-one-le (below less); rig = r .rig; rig-is = rig-of v₂ r is₂; tabs = ws .1 .0; tabs-is = g₃; list = ws .1 .1 .0; list-is = g₄; count = r .count; fits = count-fits v₂ r is₂; of-run = goes-on s e r (ws .1 .0) (ws .1 .1 .0) p }) (less-left (s .i) 13 (below less)))))))))))))))))))))
+            again ! Nearer Turn s (record { i = s .i + 1; rig = r .rig; rig-is = rig-of v₂ r is₂; tabs = ws .1 .0; tabs-is = g₃; list = ws .1 .1 .0; list-is = g₄; count = r .count; fits = count-fits v₂ r is₂; of-run = p .1 (s .of-run) .1 }) (less-left (s .i) 13 (below less)))))))))))))))))))))
             (λ past. jumps ! $ exec ! C Λ En mir′.t-9 (atRet En Post) $
             assigns ! (of-opd ! (unit-lit !)) (from ! (stop !)) (init ! 34 refl (tt, tt)) $ returns ! (look ! 34 refl) $
             forget ! 34 refl $ forget ! 30 refl $ forget ! 26 refl $ forget ! 24 refl $ forget ! 16 refl $ forget ! 1 refl $ forget ! 0 refl $
@@ -428,7 +422,7 @@ module _ {M : Type 1} (𝓤 : URA M) (H : Heap 𝓤) (A : Atoms 𝓤) (W : Given
           assigns ! (of-opd ! (lit ! tt)) (from ! (stop !)) (init ! 22 refl (tt, record { fits = lit< tt })) $
           forget ! 16 refl $ forget ! 18 refl $ forget ! 32 refl $ move ! (26 ∷ 28 ∷ []) $
           looped l₀ l₁ l₂ l₃ l₄ l₅ l₆ l₇ l₈ l₉ l₁₀ l₁₁ l₁₂ l₁₃ l₁₄ l₁₅ l₁₆ l₁₇
-          (record { i = 0; upto = zero-le; rig = g; rig-is = gg; tabs = ts; tabs-is = tabs-is ts (v ∷ []) is; list = replicate 1024 none; list-is = all-is (replicate 1024 none) (arrayVal (replicate 1024 (val none)) ∷ []) ls; count = 0; fits = lit< tt; of-run = begins g ts (replicate 1024 none) made p }))))))))))))))))))))))))
+          (record { i = 0; rig = g; rig-is = gg; tabs = ts; tabs-is = tabs-is ts (v ∷ []) is; list = replicate 1024 none; list-is = all-is (replicate 1024 none) (arrayVal (replicate 1024 (val none)) ∷ []) ls; count = 0; fits = lit< tt; of-run = begins g ts (replicate 1024 none) made p }))))))))))))))))))))))))
         where
           tabs-lawful : Lawful 𝓤 H A Tabs
           tabs-lawful = array-lawful 𝓤 H A W Table (array-lawful 𝓤 H A W (Array u64 31) (array-lawful 𝓤 H A W u64 (uint-lawful 𝓤 H A W w64) 31) 31) 4
@@ -450,7 +444,7 @@ module _ {M : Type 1} (𝓤 : URA M) (H : Heap 𝓤) (A : Atoms 𝓤) (W : Given
       → Walks 𝓤 H A play.ended stayed (WpFn 𝓤 H (𝓣 .C) (𝓣 .Λ) code.function) (play.clauses 𝓤 H A mem′ run)
   play-walks 𝓣 k₀ k₁ k₂ k₃ = walked 𝓤 H A play.ended stayed (play.clauses 𝓤 H A mem′ run) (WpFn 𝓤 H (𝓣 .C) (𝓣 .Λ) code.function)
       (λ κs. (rig-vals, tt)) (λ κs. (LL.tells G.the-type G′.the-laws, tt))
-      (λ κs qs bounds a g are. needs 𝓤 (Fresh (a .0)) _ (λ made. walk 𝓤 H A W mem′ run (a .0) (are .0) made 𝓣 k₀ k₁ k₂ k₃))
+      (λ κs qs bounds a g are. needs 𝓤 (Starts (a .0)) _ (λ made. walk 𝓤 H A W mem′ run (a .0) (are .0) made 𝓣 k₀ k₁ k₂ k₃))
 
   goes : AllGo 𝓤 H A W 0 (play.signature .params) (play.ended .kept) stayed
   goes = (goes-dropped 𝓤 H A W 0 (plain (λ _. G.the-row)) yes (λ κs x f. refl), tt)
