@@ -1,8 +1,7 @@
 -- `play`: a walk of its MIR, by hand, with a loop. Each turn lends two locals to `engine::event`, the tables as one array and the list as a slice, each for a lifetime made for the call,
 -- and takes them back as the call left them. Nothing is asked of what a call answers: the next one takes any rig, tables, list and count.
 use mathlib.Core.Path.{_≡_, refl, sym, ap, subst, _∙_}
-use Prim.Native.Nat.{ℕ, _+_, _-_, _<_, _≤_, _^_, zero-le}
-use native.Mathlib.Numerals.{add-one-le}
+use Prim.Native.Nat.{ℕ, _+_, _-_, _<_, _^_}
 use mathlib.Core.WellFounded.{WellFounded, InvImage·wf}
 use mathlib.Core.List.{List, [], _∷_}
 use lib.ListN.{length, replicate}
@@ -132,7 +131,6 @@ none-is = LL.owes T.the-type T′.the-laws none ((refl, lit< tt), ((refl, lit< t
 -- what a turn of the loop begins with: its number, the rig, the tables, the list, and how many messages are under way
 record Before : Type 0 where
   i : ℕ
-  upto : i ≤ 13
   rig : Rig
   rig-is : Is G.the-row rig (rig-vals rig)
   tabs : List (List (List ℕ))
@@ -350,7 +348,7 @@ module _ {M : Type 1} (𝓤 : URA M) (H : Heap 𝓤) (A : Atoms 𝓤) (W : Given
             assigns ! (of-opd ! (load ! (from ! (fld ! refl (stop !))) (look-in ! 22 (sub ! 2 refl (whole !))))) (from ! (stop !)) (store ! 26 refl (tt, record { fits = count-fits v₂ r is₂ })) $
             assigns-last ! (bin ! (load ! (from ! (stop !)) (look ! 24 refl)) (lit ! tt) (record { fits = next less })) (from ! (stop !)) (store ! 24 refl (tt, record { fits = next less })) $
             forget ! 2 refl $ forget ! 4 refl $ forget ! 6 refl $ forget ! 8 refl $ forget ! 10 refl $ forget ! 12 refl $ forget ! 14 refl $ forget ! 16 refl $ forget ! 22 refl $
-            again ! Nearer Turn s (record { i = s .i + 1; upto = add-one-le (below less); rig = r .rig; rig-is = rig-of v₂ r is₂; tabs = ws .1 .0; tabs-is = g₃; list = ws .1 .1 .0; list-is = g₄; count = r .count; fits = count-fits v₂ r is₂ }) (less-left (s .i) 13 (below less))))))))))))))))))))
+            again ! Nearer Turn s (record { i = s .i + 1; rig = r .rig; rig-is = rig-of v₂ r is₂; tabs = ws .1 .0; tabs-is = g₃; list = ws .1 .1 .0; list-is = g₄; count = r .count; fits = count-fits v₂ r is₂ }) (less-left (s .i) 13 (below less))))))))))))))))))))
             (λ past. jumps ! $ exec ! C Λ En mir′.t-9 (atRet En Post) $
             assigns ! (of-opd ! (unit-lit !)) (from ! (stop !)) (init ! 34 refl (tt, tt)) $ returns ! (look ! 34 refl) $
             forget ! 34 refl $ forget ! 30 refl $ forget ! 26 refl $ forget ! 24 refl $ forget ! 16 refl $ forget ! 1 refl $ forget ! 0 refl $
@@ -406,7 +404,7 @@ module _ {M : Type 1} (𝓤 : URA M) (H : Heap 𝓤) (A : Atoms 𝓤) (W : Given
           assigns ! (of-opd ! (lit ! tt)) (from ! (stop !)) (init ! 22 refl (tt, record { fits = lit< tt })) $
           forget ! 16 refl $ forget ! 18 refl $ forget ! 32 refl $ move ! (26 ∷ 28 ∷ []) $
           looped l₀ l₁ l₂ l₃ l₄ l₅ l₆ l₇ l₈ l₉ l₁₀ l₁₁ l₁₂ l₁₃ l₁₄ l₁₅ l₁₆ l₁₇
-          (record { i = 0; upto = zero-le; rig = g; rig-is = gg; tabs = ts; tabs-is = tabs-is ts (v ∷ []) is; list = replicate 1024 none; list-is = all-is (replicate 1024 none) (arrayVal (replicate 1024 (val none)) ∷ []) ls; count = 0; fits = lit< tt })))))))))))))))))))))))
+          (record { i = 0; rig = g; rig-is = gg; tabs = ts; tabs-is = tabs-is ts (v ∷ []) is; list = replicate 1024 none; list-is = all-is (replicate 1024 none) (arrayVal (replicate 1024 (val none)) ∷ []) ls; count = 0; fits = lit< tt })))))))))))))))))))))))
         where
           tabs-lawful : Lawful 𝓤 H A Tabs
           tabs-lawful = array-lawful 𝓤 H A W Table (array-lawful 𝓤 H A W (Array u64 31) (array-lawful 𝓤 H A W u64 (uint-lawful 𝓤 H A W w64) 31) 31) 4
