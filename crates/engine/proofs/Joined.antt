@@ -15,7 +15,7 @@ use Rattle.rig.specs.declared.Message.{Message}
 use Rattle.rig.specs.declared.Answer.{Answer}
 use Rattle.rig.specs.Limits.{messageLimit}
 use Rattle.model.specs.Event as M
-use Rattle.model.specs.State.{tables}
+use Rattle.model.specs.State.{tables, stored}
 use Rattle.list_rows.specs.Rows.{rowOf, messageOf, zeroRow, zeroRows, ZeroPast}
 use Rattle.list_rows.specs.State.{stored as in-rows}
 use Rattle.list_exchange.proofs.Zeros.{pasted-blank}
@@ -23,7 +23,7 @@ use Rattle.list_lent.specs.First.{firstIn}
 use Rattle.event_sites.specs.Places.{senderOf, receiverOf}
 use Rattle.event_rows.specs.Tested.{testedWith}
 use Rattle.engine_parts.specs.Parts.{listCode, readOf, changedFrom}
-use Rattle.engine.specs.Lent.{stored, answered}
+use Rattle.engine.specs.Lent.{answered}
 use Rattle.engine.proofs.Lent.{relisted, read-rows, from-fits, from-long, composed}
 
 -- where the list's code is 0, its length is 1,024 and its count at most that

@@ -5,13 +5,9 @@ use denote.Ref.{now}
 use Rattle.rig.specs.declared.Rig.{Rig}
 use Rattle.rig.specs.declared.Answer as R
 use Rattle.rig.specs.declared.Message.{Message}
-use Rattle.model.specs.State.{tables, Stored}
+use Rattle.model.specs.State.{Stored, stored}
 use Rattle.model.specs.Event.{Answer}
 use Rattle.list_rows.specs.State.{Lent}
-
--- a rig, its tables, the list, and how many of its messages are under way
-abbrev pub stored : Rig → List (List (List ℕ)) → List Message → ℕ → Stored
-stored g ts list n = record { tables = tables g ts; list = list; count = n }
 
 -- what a call answered, with the tables and the list that it left
 abbrev pub answered : R.Answer → List (List (List ℕ)) → List Message → Answer

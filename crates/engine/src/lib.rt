@@ -15,11 +15,13 @@ use rig::Rig;
 use rig::Tables;
 ghost use mathlib.Core.Path.{_≡_};
 ghost use Rattle.model.specs.Event.{event};
+ghost use Rattle.model.specs.Run.{KeepsRun};
 ghost use Rattle.engine.specs.Lent.{before, after};
 
-// One event, on any state at all: the code of document 01, and the next state.
+// One event, on any state at all: the code of document 01, and the next state. On a state of a run it is the next one of that run, and
+// demand 3 holds of it.
 pub fn event(rig: Rig, tables: &mut Tables, list: &mut [Message], count: usize, e: Event) -> Answer
-    ensures { λ r. ⌜ after r tables list ≡ event (before rig tables list count) e ⌝ }
+    ensures { λ r. ⌜ (after r tables list ≡ event (before rig tables list count) e) × KeepsRun (before rig tables list count) e (after r tables list .next) ⌝ }
 {
     let len = list.len();
     let code = list_code(count, len);

@@ -40,6 +40,10 @@ pub record Stored : Type 0 where
   pub list : List Message
   pub count : ℕ
 
+-- a rig, its tables, the list, and how many of its messages are under way
+abbrev pub stored : Rig → List (List (List ℕ)) → List Message → ℕ → Stored
+stored g ts list n = record { tables = tables g ts; list = list; count = n }
+
 abbrev pub underWay : Stored → List Message
 underWay s = take (s .count) (s .list)
 

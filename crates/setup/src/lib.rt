@@ -9,6 +9,7 @@ ghost use Prim.Native.Nat.{_≤_};
 ghost use lib.ListN.{length};
 ghost use Rattle.rig.specs.Limits.{siteLimit};
 ghost use Rattle.model.specs.Setup.{keptSets, restingRig};
+ghost use Rattle.model.specs.Run.{StartsRun};
 ghost use Rattle.setup.specs.Answer.{setupAnswer};
 
 // The code of document 01, 0 where the sets pass, and the fresh rig; a refused setup answers a rig without sites.
@@ -53,8 +54,9 @@ pub fn resting(size: u64, sets: [u64; Rig::SITES]) -> Rig
     }
 }
 
+// Where the code is 0, the rig starts a run of these sets.
 pub fn setup(size: u64, sets: &[u64]) -> Answer
-    ensures { λ r. ⌜ r ≡ setupAnswer size (now (sets .entry)) ⌝ }
+    ensures { λ r. ⌜ (r ≡ setupAnswer size (now (sets .entry))) × (r .code ≡ 0 → StartsRun size (now (sets .entry)) (r .rig)) ⌝ }
 {
     let code = judge(size, sets);
     if code != 0 {

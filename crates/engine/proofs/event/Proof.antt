@@ -60,13 +60,16 @@ use Rattle.rig.specs.declared.Answer.{Answer}
 use Rattle.list_search.specs.declared.Found.{Found}
 use Rattle.rig.specs.Limits.{messageLimit}
 use Rattle.model.specs.Event as Model
+use Rattle.model.specs.State.{stored}
+use Rattle.model.specs.Run.{KeepsRun}
+use Rattle.model.proofs.OfRun.{keeps-run}
 use Rattle.list_rows.specs.Rows.{rowOf, messageOf, zeroRows, ZeroPast}
 use Rattle.list_rows.specs.State.{stored as in-rows}
 use Rattle.list_lent.specs.First.{firstIn}
 use Rattle.event_sites.specs.Places.{senderOf, receiverOf}
 use Rattle.event_rows.specs.Tested.{testedWith}
 use Rattle.engine_parts.specs.Parts.{listCode, readOf, changedFrom}
-use Rattle.engine.specs.Lent.{stored, answered}
+use Rattle.engine.specs.Lent.{answered}
 use Rattle.engine.proofs.Joined.{code-few, read-in, read-few, zero-past, from-in, from-full, joined}
 use Rattle.rig.proofs.Rig as G
 use Rattle.rig.proofs.Rig.Laws as G′
@@ -257,10 +260,13 @@ module _ {M : Type 1} (𝓤 : URA M) (H : Heap 𝓤) (A : Atoms 𝓤) (W : Given
       → ent 𝓤 (⋆ 𝓤 H A (‵ (flft κ₀ q₀) ∷ ‵ (flft κ₁ q₁) ∷ ‵ (fres (t .name) (Tabs .coded .code ts)) ∷ ‵ (finally T.the-row γ zs) ∷ [])) (Post (only (answer-vals r)))
   exits r ts zs l said gr =
       qed W (‵ (flft κ₀ q₀) ∷ ‵ (flft κ₁ q₁) ∷ ‵ (fres (t .name) (Tabs .coded .code ts)) ∷ ‵ (finally T.the-row γ zs) ∷ []) ∵
-      suffices ! _ (ends-at 𝓤 H A event.ended stayed (event.clauses 𝓤 H A mem′ run) W (((κ₀, (κ₁, tt)), (q₀, (q₁, tt)), tt, x, at), tt) (only (answer-vals r)) r (tt, (ts, (zs, (tt, (tt, tt))))) (tt, (tt, (l, (tt, (tt, tt)))))) $ says ! said $
+      suffices ! _ (ends-at 𝓤 H A event.ended stayed (event.clauses 𝓤 H A mem′ run) W (((κ₀, (κ₁, tt)), (q₀, (q₁, tt)), tt, x, at), tt) (only (answer-vals r)) r (tt, (ts, (zs, (tt, (tt, tt))))) (tt, (tt, (l, (tt, (tt, tt)))))) $ says ! (said, keeps) $
       nothing ! $ move ! (2 ∷ 0 ∷ []) $ join ! $ move ! (1 ∷ 0 ∷ []) $ join ! $ frame ! $
       nothing ! $ nothing ! $ fjoin ! $ nothing ! $ move ! (0 ∷ 1 ∷ []) $ fjoin ! $ move ! (2 ∷ 0 ∷ []) $ fjoin ! $ move ! (1 ∷ 0 ∷ []) $ fjoin ! $ nothing ! $ fjoin ! $ frame ! $
       owned ! K.the-row (Is K.the-row) (LL.makes K.the-type K′.the-plain 𝓤 H A) r _ gr $ done !
+    where
+      keeps : KeepsRun (stored g (t .now) ys n) e (answered r ts zs .next)
+      keeps = subst (λ (a : Model.Answer). KeepsRun (stored g (t .now) ys n) e (a .next)) (sym said) (keeps-run (stored g (t .now) ys n) e)
 
   -- ---- what each callee is passed, and that it is had; and of what it ensures, the clause alone
   abbrev to-code : ListCode 𝓤 H A mem′ run .Ghost
