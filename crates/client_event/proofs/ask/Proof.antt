@@ -15,7 +15,7 @@ use prog.Wp.{Heap, Calls, Loops, WpFn, Tables}
 use ghost.Atoms.{Atoms}
 use contract.Monad.{Fun, fact}
 use contract.Running.{givenOf, tables, tablesOf}
-use types.Kit.{Given, ‵, raw, _⊛_, some, later, ⋆, _$_, _∵_, !, qed, by, move, keep, drop, group, use1, split, join, pick, rewrite, fsplit, fjoin, feqL, suffices, frame, await, done}
+use types.Kit.{Given, Item, ‵, raw, _⊛_, some, later, ⋆, _$_, _∵_, !, qed, by, move, keep, drop, group, use1, split, join, pick, rewrite, fsplit, fjoin, feqL, suffices, frame, await, done}
 use types.Part.{agg, whole, sub, look-in}
 use types.Run.{look, init, forget, stop, hop, fld, from, load, lit, and-then, no-more, addr, assigns, land, returns, enter, alloc1, alloc0, params1, pass1, pass0, free1, free0}
 use sound.WpLaws.{FmC, fmOf, WpFn-mono}
@@ -164,6 +164,13 @@ module _ {M : Type 1} (𝓤 : URA M) (H : Heap 𝓤) (A : Atoms 𝓤) (W : Given
       move ! (4 ∷ 0 ∷ []) $ fjoin ! $ move ! (3 ∷ 0 ∷ []) $ fjoin ! $ owned ! G.the-row (Is G.the-row) (LL.makes G.the-type G′.the-plain 𝓤 H A) g _ gg $ fjoin ! $
       nothing ! $ move ! (3 ∷ 0 ∷ []) $ join ! $ move ! (2 ∷ 0 ∷ []) $ join ! $ join ! $ frame ! $ done !
 
+  -- what it ensures: the last tables and the last list, and the clause
+  abbrev Ends : Answer → Item 𝓤
+  Ends r = some (λ (ws : Unit {0} × (List (List (List ℕ)) × (List Message × (Unit {0} × (Unit {0} × Unit {0}))))). ‵ (lasts event.ended (κ₀, (κ₁, tt)) (g, (t, (xs, (n, (Ask a, tt))))) ws) ⊛ raw (fact 𝓤 (Told r (ws .1 .0) (ws .1 .1 .0))))
+
+  ends : (r : Answer) → ent 𝓤 (ensured 𝓤 H A event.ended (event.clauses 𝓤 H A mem run) (κ₀, (κ₁, tt)) (g, (t, (xs, (n, (Ask a, tt))))) tt r) (⋆ 𝓤 H A (Ends r ∷ []))
+  ends r = id⊢ 𝓤 _
+
   known-answer : (v : Val) (r : Answer) → Is K.the-row r (v ∷ []) → v ∷ [] ≡ answer-vals r
   known-answer v r is = LL.tells K.the-type K′.the-laws r (v ∷ []) is
 
@@ -187,7 +194,7 @@ module _ {M : Type 1} (𝓤 : URA M) (H : Heap 𝓤) (A : Atoms 𝓤) (W : Given
         -- [what the callee asks; _9; …; _0; …]
         calls-at ! fm (OneEvent 𝓤 H A mem run) known-event to-event (and-then ! (load ! (from ! (stop !)) (look ! 17 refl)) (and-then ! (load ! (from ! (stop !)) (look ! 7 refl)) (and-then ! (load ! (from ! (stop !)) (look ! 3 refl)) (and-then ! (load ! (from ! (stop !)) (look ! 11 refl)) (and-then ! (load ! (from ! (stop !)) (look ! 1 refl)) (no-more !)))))) (λ v.
         use1 W (later (some (λ (r : Answer). ((‵ (flft κ₀ q₀) ⊛ (‵ (flft κ₁ q₁) ⊛ ‵ ftrue)) ⊛ ‵ (K.the-row .own r (v ∷ []))) ⊛ raw (ensured 𝓤 H A event.ended (event.clauses 𝓤 H A mem run) (κ₀, (κ₁, tt)) (g, (t, (xs, (n, (Ask a, tt))))) tt r)))) (id⊢ 𝓤 _) $ await ! tt $ pick ! (λ r.
-        split ! $ move ! (1 ∷ []) $ use1 W (some (λ (ws : Unit {0} × (List (List (List ℕ)) × (List Message × (Unit {0} × (Unit {0} × Unit {0}))))). ‵ (lasts event.ended (κ₀, (κ₁, tt)) (g, (t, (xs, (n, (Ask a, tt))))) ws) ⊛ raw (fact 𝓤 (Told r (ws .1 .0) (ws .1 .1 .0))))) (id⊢ 𝓤 _) $ pick ! (λ ws.
+        split ! $ move ! (1 ∷ []) $ use1 W (Ends r) (ends r) $ pick ! (λ ws.
         split ! $ move ! (1 ∷ []) $ heard ! (Told r (ws .1 .0) (ws .1 .1 .0)) (λ p. fsplit ! $ move ! (1 ∷ []) $ fsplit ! $ move ! (1 ∷ []) $ fsplit ! $ move ! (3 ∷ []) $ drop ! $ move ! (1 ∷ []) $ drop ! $ fsplit ! $ move ! (1 ∷ []) $ feqL ! (λ m.
         -- [the list's last; the tables' last; the tokens and the answer; _9; …; _0; …]
         move ! (2 ∷ []) $ split ! $ move ! (1 ∷ []) $ facts ! K.the-row (Is K.the-row) (shows 𝓤 H A K.the-row) r (v ∷ []) (λ is. split ! $ move ! (1 ∷ []) $ split ! $ move ! (1 ∷ []) $ drop ! $

@@ -35,7 +35,7 @@ unfolding allGiven setupAnswer
 returns c = λ ts rows fits.
     let a = c .before .before .before .before .before .before .before .before .args in
     let m = c .before .before .before .before .before .before .setup in
-    let e : m .result .code ≡ setupCode (a .p .size) (a .t3) = ap (λ (x : Answer). x .code) (m .ensures) in
+    let e : m .result .code ≡ setupCode (a .p .size) (a .t3) = ap (λ (x : Answer). x .code) (m .ensures .0) in
     stops (a .p) ts rows (c .stop .result) (m .result .code) (c .before .fault-line .result) (c .stop .ensures) (allGiven (text (a .p) ts rows) (a .t3)) (rw (c .before .fault-line .ensures, ← e, ne-eqb (m .result .code) 0 (c .before .before .before .before .if1 .taken)))
 
 one-more-requires : tie.Need-one-more-requires
@@ -46,8 +46,8 @@ unfolding allGiven setupAnswer
 returns-2 c = λ ts rows fits.
     let a = c .before .before .before .before .before .before .args in
     let m = c .before .before .before .before .setup in
-    let e : setupCode (a .p .size) (a .t3) ≡ 0 = ap (λ (x : Answer). x .code) (sym (m .ensures)) ∙ c .before .before .if1 .left in
-    starts (a .p) ts rows (fits .0) (c .one-more .result) (c .one-more .ensures) (a .t3) (m .result .rig) e (ap (λ (x : Answer). x .rig) (m .ensures) ∙ rw e)
+    let e : setupCode (a .p .size) (a .t3) ≡ 0 = ap (λ (x : Answer). x .code) (sym (m .ensures .0)) ∙ c .before .before .if1 .left in
+    starts (a .p) ts rows (fits .0) (c .one-more .result) (c .one-more .ensures) (a .t3) (m .result .rig) e (ap (λ (x : Answer). x .rig) (m .ensures .0) ∙ rw e)
 
 pub all-given-spec : {M : Type 1} → statement M
 all-given-spec =
