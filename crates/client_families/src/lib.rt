@@ -1,0 +1,24 @@
+// A caller of `families::generate` and `setup::setup`: its promise follows from their contracts alone.
+use families::Family;
+use families::generate;
+use rig::Rig;
+use setup::Answer;
+use setup::resting;
+use setup::setup;
+ghost use mathlib.Core.Path.{_≡_};
+ghost use Rattle.client_families.specs.Rig.{familyRig};
+
+// Generates a family's sets and sets them up.
+pub fn family_rig(family: Family) -> Answer
+    ensures { λ r. ⌜ r ≡ familyRig family ⌝ }
+{
+    let mut sets = [0u64; Rig::SITES];
+    let made = generate(family, &mut sets);
+    if made.code != 0 {
+        return Answer {
+            code: made.code,
+            rig: resting(0, sets),
+        };
+    }
+    setup(made.size, &sets)
+}
