@@ -1,12 +1,13 @@
-// A caller of `families::generate` and `setup::setup`: its promise follows from their contracts alone.
+// A caller of the calls on families, and of `setup::setup`: each promise follows from their contracts alone.
 use families::Family;
+use families::billiard_set;
 use families::generate;
 use rig::Rig;
 use setup::Answer;
 use setup::resting;
 use setup::setup;
 ghost use mathlib.Core.Path.{_≡_};
-ghost use Rattle.client_families.specs.Rig.{familyRig};
+ghost use Rattle.client_families.specs.Rig.{familyRig, nineSets};
 
 // Generates a family's sets and sets them up.
 pub fn family_rig(family: Family) -> Answer
@@ -21,4 +22,11 @@ pub fn family_rig(family: Family) -> Answer
         };
     }
     setup(made.size, &sets)
+}
+
+// The sets of sites 11 and 34 in the billiard of q = 9, by the rule itself.
+pub fn nine_sets() -> [u64; 2]
+    ensures { λ r. ⌜ r ≡ nineSets ⌝ }
+{
+    [billiard_set(9, 11), billiard_set(9, 34)]
 }
