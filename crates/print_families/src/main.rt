@@ -74,10 +74,8 @@ fn print_sets(name: &[u8], parameter: u64, size: u64, sets: &[u64; Rig::SITES]) 
 
 // As `grid s=2 site=1: 1,2,3`.
 fn print_site(name: &[u8], parameter: u64, site: u64, set: u64) {
-    io::write_all(STDOUT_FILENO, name);
-    io::print_decimal(STDOUT_FILENO, parameter);
-    io::write_all(STDOUT_FILENO, b" site=");
-    io::print_decimal(STDOUT_FILENO, site);
+    print_field(name, parameter);
+    print_field(b" site=", site);
     io::write_all(STDOUT_FILENO, b": ");
     print_members(set);
     io::write_all(STDOUT_FILENO, b"\n");
@@ -103,11 +101,13 @@ fn print_member(after_another: bool, member: u64) {
 
 // As `grid s=0 entries=31 code=12`.
 fn print_code(name: &[u8], parameter: u64, entries: u64, code: u64) {
-    io::write_all(STDOUT_FILENO, name);
-    io::print_decimal(STDOUT_FILENO, parameter);
-    io::write_all(STDOUT_FILENO, b" entries=");
-    io::print_decimal(STDOUT_FILENO, entries);
-    io::write_all(STDOUT_FILENO, b" code=");
-    io::print_decimal(STDOUT_FILENO, code);
+    print_field(name, parameter);
+    print_field(b" entries=", entries);
+    print_field(b" code=", code);
     io::write_all(STDOUT_FILENO, b"\n");
+}
+
+fn print_field(name: &[u8], n: u64) {
+    io::write_all(STDOUT_FILENO, name);
+    io::print_decimal(STDOUT_FILENO, n);
 }
