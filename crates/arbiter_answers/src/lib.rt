@@ -1,8 +1,7 @@
 // What an arbiter answers to a site that it has queued, as model/specs/Arbiter defines it. An inner call: the desk is that of the arbiter's
 // own site, and messages go to `out`, behind the first `count` rows.
-use arbiter_grants::append_two;
-use arbiter_grants::inquire_of;
-use arbiter_grants::transfer_of;
+use arbiter_holder::inquire_of;
+use arbiter_holder::transfer_of;
 use arbiter_queue::before_holder;
 use arbiter_queue::head;
 use list_rows::Row;
@@ -10,7 +9,9 @@ use list_rows::append;
 use rig::Desk;
 use rig::Message;
 ghost use mathlib.Core.Path.{_≡_};
-ghost use Prim.Native.Nat.{_≤_};
+ghost use mathlib.Core.List.{[], _∷_};
+ghost use Prim.Native.Nat.{_+_, _≤_};
+ghost use lib.ListN.{length};
 ghost use Rattle.rig.specs.Limits.{siteLimit, SiteNumber};
 ghost use Rattle.model.specs.Arbiter.{failFormer, inquireOrFail, answers};
 ghost use Rattle.list_rows.specs.Rows.{Appends};
@@ -42,6 +43,15 @@ fn inquire_or_fail(d: Desk, k: u64) -> Message
         return inquire_of(d.number, d.arbiter);
     }
     Message::fail(d.number, k)
+}
+
+// Two messages, in this order.
+fn append_two(out: &mut [Row], count: usize, one: Message, other: Message) -> usize
+    requires { ⌜ count + 2 ≤ length (now out) ⌝ }
+    ensures { λ r. ⌜ Appends (one ∷ other ∷ []) count (now (out .entry)) (now (out .exit)) r ⌝ }
+{
+    let next = append(out, count, one);
+    append(out, next, other)
 }
 
 // An inner call: the answers to k, which has been queued; `former` was the head before, 0 none.

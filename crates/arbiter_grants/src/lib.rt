@@ -1,51 +1,20 @@
-// What an arbiter sends its holder, and how it grants. The desk is that of the arbiter's own site, and messages go to `out`, behind the
+// How an arbiter grants, and names its holder the next heir. The desk is that of the arbiter's own site, and messages go to `out`, behind the
 // first `count` rows.
+use arbiter_holder::held_by;
+use arbiter_holder::transfer_of;
 use arbiter_queue::head;
 use arbiter_queue::queued_at;
 use arbiter_queue::requeued;
 use event_effects::Acted;
 use list_rows::Row;
 use list_rows::append;
-use rig::Arbiter;
 use rig::Desk;
 use rig::Message;
-ghost use mathlib.Core.Path.{_≡_};
-ghost use mathlib.Core.List.{[], _∷_};
-ghost use Prim.Native.Nat.{_+_, _≤_};
-ghost use lib.ListN.{length};
 ghost use Rattle.rig.specs.Limits.{SiteNumber};
-ghost use Rattle.rig.specs.Messages.{inquire, transfer};
-ghost use Rattle.model.specs.Arbiter.{heldBy, nextHeir, granted, grantedHead};
+ghost use Rattle.model.specs.Arbiter.{nextHeir, granted, grantedHead};
 ghost use Rattle.list_rows.specs.Rows.{Appends};
 ghost use Rattle.event_effects.specs.Effects.{CarriesOut};
 ghost use Rattle.arbiter_grants.specs.Needs.{Room};
-
-// The permission is held by k, with grant number g; it asked with sequence number n.
-pub fn held_by(d: Desk, g: u64, k: u64, n: u64) -> Desk
-    ensures { λ r. ⌜ r ≡ heldBy d g k n (d .queued) ⌝ }
-{
-    let mut u = d;
-    let a = Arbiter {
-        grant: g,
-        holder: k,
-        seq: n,
-    };
-    u.arbiter = a;
-    u
-}
-
-// A transfer to the holder that names k, and an inquire to the holder: each carries the holder's grant number.
-pub fn transfer_of(number: u64, a: Arbiter, k: u64) -> Message
-    ensures { λ r. ⌜ r ≡ transfer number (a .holder) k (a .grant) ⌝ }
-{
-    Message::transfer(number, a.holder, k, a.grant)
-}
-
-pub fn inquire_of(number: u64, a: Arbiter) -> Message
-    ensures { λ r. ⌜ r ≡ inquire number (a .holder) (a .grant) ⌝ }
-{
-    Message::inquire(number, a.holder, a.grant)
-}
 
 // If the queue isn't empty, a transfer that names the head goes to the holder.
 fn next_heir(d: Desk, out: &mut [Row], count: usize) -> usize
@@ -91,13 +60,4 @@ pub fn grant_head(d: Desk, out: &mut [Row], count: usize) -> Acted
     }
     let n = queued_at(&d.queued, h);
     grant(d, out, count, h, n)
-}
-
-// An inner call: two messages, in this order.
-pub fn append_two(out: &mut [Row], count: usize, one: Message, other: Message) -> usize
-    requires { ⌜ count + 2 ≤ length (now out) ⌝ }
-    ensures { λ r. ⌜ Appends (one ∷ other ∷ []) count (now (out .entry)) (now (out .exit)) r ⌝ }
-{
-    let next = append(out, count, one);
-    append(out, next, other)
 }

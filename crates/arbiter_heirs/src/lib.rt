@@ -1,8 +1,8 @@
 // What an arbiter does when its holder has released with a queued heir, as model/specs/Arbiter defines it. The desk is that of the
 // arbiter's own site, and messages go to `out`, behind the first `count` rows.
-use arbiter_grants::held_by;
-use arbiter_grants::inquire_of;
-use arbiter_grants::transfer_of;
+use arbiter_holder::held_by;
+use arbiter_holder::inquire_of;
+use arbiter_holder::transfer_of;
 use arbiter_queue::before_holder;
 use arbiter_queue::head;
 use arbiter_queue::queued_at;

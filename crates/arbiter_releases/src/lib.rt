@@ -1,9 +1,9 @@
 // What an arbiter does with a release, as model/specs/Arbiter defines it. An inner call: the desk is that of the arbiter's own site, and
 // messages go to `out`, behind the first `count` rows.
 use arbiter_grants::grant_head;
-use arbiter_grants::held_by;
 use arbiter_heirs::heir_takes_over;
 use arbiter_holder::from_holder;
+use arbiter_holder::held_by;
 use arbiter_holder::is_early;
 use arbiter_queue::queued_at;
 use arbiter_queue::requeued;

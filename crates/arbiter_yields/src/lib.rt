@@ -1,8 +1,8 @@
 // What an arbiter does with a yield, as model/specs/Arbiter defines it. An inner call: the desk is that of the arbiter's own site, and
 // messages go to `out`, behind the first `count` rows.
 use arbiter_grants::grant_head;
-use arbiter_grants::held_by;
 use arbiter_holder::from_holder;
+use arbiter_holder::held_by;
 use arbiter_queue::requeued;
 use event_effects::Acted;
 use list_rows::Row;

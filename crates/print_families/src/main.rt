@@ -6,30 +6,46 @@ use libc::STDOUT_FILENO;
 use rig::Rig;
 
 fn main() {
-    print_family(b"grid s=", 1, Family::Grid(1));
-    print_family(b"grid s=", 2, Family::Grid(2));
-    print_family(b"grid s=", 3, Family::Grid(3));
-    print_family(b"grid s=", 4, Family::Grid(4));
-    print_family(b"grid s=", 5, Family::Grid(5));
-    print_family(b"billiard q=", 3, Family::Billiard(3));
-    print_family(b"billiard q=", 5, Family::Billiard(5));
-    print_family(b"billiard q=", 7, Family::Billiard(7));
-    print_site(b"billiard q=", 9, 11, families::billiard_set(9, 11));
-    print_site(b"billiard q=", 9, 34, families::billiard_set(9, 34));
-    print_family(b"plane p=", 2, Family::Plane(2));
-    print_family(b"plane p=", 3, Family::Plane(3));
-    print_family(b"plane p=", 5, Family::Plane(5));
+    print_grid(1);
+    print_grid(2);
+    print_grid(3);
+    print_grid(4);
+    print_grid(5);
+    print_billiard(3);
+    print_billiard(5);
+    print_billiard(7);
+    print_billiard_of_9(11);
+    print_billiard_of_9(34);
+    print_plane(2);
+    print_plane(3);
+    print_plane(5);
     print_refusals();
 }
 
 // Parameters that are not listed, and buffers of 30 entries.
 fn print_refusals() {
-    print_family(b"grid s=", 0, Family::Grid(0));
-    print_family(b"grid s=", 6, Family::Grid(6));
-    print_family(b"billiard q=", 9, Family::Billiard(9));
-    print_family(b"plane p=", 4, Family::Plane(4));
+    print_grid(0);
+    print_grid(6);
+    print_billiard(9);
+    print_plane(4);
     print_short(b"grid s=", 2, Family::Grid(2));
     print_short(b"plane p=", 4, Family::Plane(4));
+}
+
+fn print_grid(s: u64) {
+    print_family(b"grid s=", s, Family::Grid(s));
+}
+
+fn print_billiard(q: u64) {
+    print_family(b"billiard q=", q, Family::Billiard(q));
+}
+
+fn print_billiard_of_9(site: u64) {
+    print_site(b"billiard q=", 9, site, families::billiard_set(9, site));
+}
+
+fn print_plane(p: u64) {
+    print_family(b"plane p=", p, Family::Plane(p));
 }
 
 fn print_family(name: &[u8], parameter: u64, family: Family) {
@@ -58,10 +74,8 @@ fn print_sets(name: &[u8], parameter: u64, size: u64, sets: &[u64; Rig::SITES]) 
 
 // As `grid s=2 site=1: 1,2,3`.
 fn print_site(name: &[u8], parameter: u64, site: u64, set: u64) {
-    io::write_all(STDOUT_FILENO, name);
-    io::print_decimal(STDOUT_FILENO, parameter);
-    io::write_all(STDOUT_FILENO, b" site=");
-    io::print_decimal(STDOUT_FILENO, site);
+    print_field(name, parameter);
+    print_field(b" site=", site);
     io::write_all(STDOUT_FILENO, b": ");
     print_members(set);
     io::write_all(STDOUT_FILENO, b"\n");
@@ -87,11 +101,13 @@ fn print_member(after_another: bool, member: u64) {
 
 // As `grid s=0 entries=31 code=12`.
 fn print_code(name: &[u8], parameter: u64, entries: u64, code: u64) {
-    io::write_all(STDOUT_FILENO, name);
-    io::print_decimal(STDOUT_FILENO, parameter);
-    io::write_all(STDOUT_FILENO, b" entries=");
-    io::print_decimal(STDOUT_FILENO, entries);
-    io::write_all(STDOUT_FILENO, b" code=");
-    io::print_decimal(STDOUT_FILENO, code);
+    print_field(name, parameter);
+    print_field(b" entries=", entries);
+    print_field(b" code=", code);
     io::write_all(STDOUT_FILENO, b"\n");
+}
+
+fn print_field(name: &[u8], n: u64) {
+    io::write_all(STDOUT_FILENO, name);
+    io::print_decimal(STDOUT_FILENO, n);
 }

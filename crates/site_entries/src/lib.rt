@@ -1,17 +1,14 @@
-// A site's part of its desk: what it says, and how it changes.
+// A site's part of its desk: how it changes.
 use rig::Desk;
 use rig::Mode;
 use rig::Rig;
 use rig::Site;
-use rig_reads::is_member;
 ghost use mathlib.Core.Path.{_≡_};
-ghost use mathlib.Core.Bool.{not, _||_, cond};
-ghost use Prim.Native.Nat.{_≤_};
+ghost use mathlib.Core.Bool.{cond};
 ghost use lib.Dec.{eqb};
-ghost use Rattle.rig.specs.Limits.{siteLimit, SiteNumber};
+ghost use Rattle.rig.specs.Limits.{SiteNumber};
 ghost use Rattle.model.specs.Desk.{withSite, withoutEntries};
-ghost use Rattle.model.specs.Sets.{member};
-ghost use Rattle.model.specs.Site.{failedSet, allHeld, entered, taken, remembered};
+ghost use Rattle.model.specs.Site.{failedSet, entered, taken, remembered};
 
 // The desk with no entries, and with the given site.
 pub fn cleared(d: Desk, site: Site) -> Desk
@@ -40,27 +37,6 @@ pub fn failed_set(d: Desk) -> Desk
     let mut e = d;
     e.site = site;
     e
-}
-
-// One turn of `all_held`: site j is outside the set, or held with number g.
-fn outside_or_held(set: u64, j: u64, g: u64) -> bool
-    ensures { λ r. ⌜ r ≡ not (member set j) || not (eqb g 0) ⌝ }
-{
-    if is_member(set, j) { g != 0 } else { true }
-}
-
-// An inner call: all members are held.
-pub fn all_held(d: Desk) -> bool
-    requires { ⌜ d .size ≤ siteLimit ⌝ }
-    ensures { λ r. ⌜ r ≡ allHeld d ⌝ }
-{
-    for i in 0..d.size {
-        let g = d.held[i as usize];
-        if !outside_or_held(d.members, i + 1, g) {
-            return false;
-        }
-    }
-    true
 }
 
 // The site is inside; its remembered inquires are cleared.

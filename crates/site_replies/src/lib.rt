@@ -13,7 +13,7 @@ fn enter_or_yield(d: Desk, j: u64, out: &mut [Row], count: usize) -> Acted
     requires { ⌜ SiteNumber j × (d .size ≤ siteLimit) × (count < length (now out)) ⌝ }
     ensures { λ r. ⌜ CarriesOut (enteredOrYielded d j) count (now (out .entry)) (now (out .exit)) r ⌝ }
 {
-    if site_entries::all_held(d) {
+    if site_held::all_held(d) {
         return Acted {
             desk: site_entries::enter(d),
             count: count,

@@ -9,8 +9,8 @@ use Rattle.player_lines.proofs.line.Statement.{statement}
 use Rattle.player_lines.proofs.line.Tie as tie
 use Rattle.player_grammar.proofs.meaning.Reads as meaning-reads
 use Rattle.player_lines.proofs.on_event.Reads as on-event-reads
-use Rattle.player_text.proofs.on_set.Reads as on-set-reads
-use Rattle.player_text.proofs.on_size.Reads as on-size-reads
+use Rattle.player_setup.proofs.on_set.Reads as on-set-reads
+use Rattle.player_setup.proofs.on_size.Reads as on-size-reads
 
 meaning-requires : tie.Need-meaning-requires
 meaning-requires c κs = search needs

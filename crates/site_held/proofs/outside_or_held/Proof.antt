@@ -1,8 +1,8 @@
 -- `outside_or_held`: the test of one site.
 use mathlib.Core.Path.{sym, _∙_}
 use borrow.Author.Needs.{needs}
-use Rattle.site_entries.proofs.outside_or_held.Statement.{statement}
-use Rattle.site_entries.proofs.outside_or_held.Tie as tie
+use Rattle.site_held.proofs.outside_or_held.Statement.{statement}
+use Rattle.site_held.proofs.outside_or_held.Tie as tie
 
 is-member-requires : tie.Need-is-member-requires
 is-member-requires c κs = search needs

@@ -4,14 +4,14 @@ use borrow.Author.Tests.{ne-eqb}
 use Rattle.model.specs.Setup.{setupCode}
 use Rattle.setup.specs.declared.Answer.{Answer}
 use Rattle.setup.specs.Answer.{setupAnswer}
 use Rattle.player_text.specs.Player.{allGiven}
 use Rattle.player_text.specs.Calls.{text}
 use Rattle.player_text.proofs.Heads.{stops, starts}
 use borrow.Author.Needs.{needs}
-use Rattle.player_text.proofs.all_given.Statement.{statement}
-use Rattle.player_text.proofs.all_given.Tie as tie
+use Rattle.player_setup.proofs.all_given.Statement.{statement}
+use Rattle.player_setup.proofs.all_given.Tie as tie
 use Rattle.player_text.proofs.one_more.Reads as one-more-reads
 use Rattle.player_text.proofs.stop.Reads as stop-reads
 use Rattle.setup_faults.proofs.fault_line.Reads as fault-line-reads
 use Rattle.setup.proofs.setup.Reads as setup-reads
 

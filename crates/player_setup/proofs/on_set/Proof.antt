@@ -3,16 +3,16 @@ use Prim.Native.Nat.{_+_}
 use native.Mathlib.Numerals.{add-one}
 use borrow.Author.Tests.{le-ltb}
 use Rattle.model.specs.Tables.{put}
 use Rattle.player_text.specs.Player.{setIn, onSet}
 use Rattle.player_text.specs.Calls.{text}
 use Rattle.player_text.proofs.Lines.{no-set}
 use Rattle.player_text.proofs.Heads.{stops, takes-set}
 use borrow.Author.Needs.{needs}
-use Rattle.player_text.proofs.on_set.Statement.{statement}
-use Rattle.player_text.proofs.on_set.Tie as tie
-use Rattle.player_text.proofs.all_given.Reads as all-given-reads
+use Rattle.player_setup.proofs.on_set.Statement.{statement}
+use Rattle.player_setup.proofs.on_set.Tie as tie
+use Rattle.player_setup.proofs.all_given.Reads as all-given-reads
 use Rattle.player_text.proofs.one_more.Reads as one-more-reads
 use Rattle.player_text.proofs.stop.Reads as stop-reads
 
 one-more-requires : tie.Need-one-more-requires
 one-more-requires c κs = search needs

@@ -2,15 +2,15 @@
 use borrow.Author.Tests.{le-leb, lt-leb}
 use Rattle.rig.specs.Limits.{siteLimit}
 use Rattle.model.specs.Setup.{sizeListed}
 use Rattle.player_text.specs.Player.{sizeIn, onSize}
 use Rattle.player_text.specs.Calls.{text}
 use Rattle.player_text.proofs.Lines.{no-size}
 use Rattle.player_text.proofs.Heads.{stops, takes-size}
 use borrow.Author.Needs.{needs}
-use Rattle.player_text.proofs.on_size.Statement.{statement}
-use Rattle.player_text.proofs.on_size.Tie as tie
+use Rattle.player_setup.proofs.on_size.Statement.{statement}
+use Rattle.player_setup.proofs.on_size.Tie as tie
 use Rattle.player_text.proofs.one_more.Reads as one-more-reads
 use Rattle.player_text.proofs.stop.Reads as stop-reads
 
 one-more-requires : tie.Need-one-more-requires
 one-more-requires c κs = search needs

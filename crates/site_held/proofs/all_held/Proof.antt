@@ -13,8 +13,8 @@ use Rattle.basics.proofs.Basics.{all-fails, all-more}
 use Rattle.model.specs.Tables.{at}
 use Rattle.model.specs.Desk.{has, heldFor}
 use Rattle.model.specs.Site.{allHeld}
-use Rattle.site_entries.proofs.all_held.Statement.{statement}
-use Rattle.site_entries.proofs.all_held.Tie as tie
+use Rattle.site_held.proofs.all_held.Statement.{statement}
+use Rattle.site_held.proofs.all_held.Tie as tie
 
 abbrev Inv-loop : tie.InvT-loop
 Inv-loop d i₀ i-end i =

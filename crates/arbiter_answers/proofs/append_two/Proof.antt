@@ -2,8 +2,8 @@
 use mathlib.Core.Path.{refl}
 use borrow.Author.Needs.{needs}
 use Rattle.event_effects.proofs.Effects.{sent-one, sent-more}
-use Rattle.arbiter_grants.proofs.append_two.Statement.{statement}
-use Rattle.arbiter_grants.proofs.append_two.Tie as tie
+use Rattle.arbiter_answers.proofs.append_two.Statement.{statement}
+use Rattle.arbiter_answers.proofs.append_two.Tie as tie
 
 append-requires : tie.Need-append-requires
 append-requires c κs = search needs
