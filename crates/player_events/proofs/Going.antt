@@ -29,7 +29,7 @@ use Rattle.player_text.specs.declared.Stage.the-variants.{Events}
 use Rattle.player_text.specs.Player.{counted, eventIn}
 use Rattle.player_text.specs.Calls.{text, HoldsAt, PlayerFits}
 use Rattle.player_events.specs.declared.Stretch.{Stretch}
-use Rattle.player_events.specs.Lines.{between, LineTo}
+use Rattle.player_next.specs.Lines.{between, LineTo}
 use Rattle.player_events.specs.Stretches.{playerAt, Plays, Stops, Ends, Stretches}
 use Rattle.player_events.proofs.Reading.{plays-line, plays-nothing, wrote-long}
 use Rattle.player_events.proofs.Turns.{event-line, event-run, other-line}

@@ -1,25 +1,23 @@
 -- A part of a text read line by line: one part behind another, and one line more.
 use Prim.Native.Nat.{ℕ, suc, _+_, _-_, _^_, _≤_, _<_}
 use mathlib.Core.List.{List, [], _∷_, _++_, append-nil}
-use mathlib.Core.Option.{Option, none, some}
 use mathlib.Core.Path.{_≡_, refl, sym, ap, _∙_}
 use native.Mathlib.Omega.{arith}
 use borrow.Author.Tests.{leb-true, leb-false, eqb-true}
 use lib.Dec.{eqb, leb}
 use lib.ListN.{length, take, drop, length-drop}
-use lib.Seq.{take-add, take-length, drop-drop, length-sets}
+use lib.Seq.{take-add, drop-drop, length-sets}
 use Rattle.basics.proofs.Basics.{by-bool}
-use Rattle.bytes.specs.Bytes.{indexAfter, indexOf, slice}
-use Rattle.rig.specs.declared.Event.{Event}
-use Rattle.player_grammar.specs.Grammar.{lineLimit, meaningOf}
+use Rattle.bytes.specs.Bytes.{indexAfter, indexOf}
+use Rattle.player_grammar.specs.Grammar.{lineLimit}
 use Rattle.player_printing.specs.Printing.{pageLength, Printed}
 use Rattle.player_bytes.specs.Wrote.{Wrote}
 use Rattle.player_printing.proofs.Lines.{printed-part}
 use Rattle.player_bytes.proofs.Stores.{wrote-more}
-use Rattle.player_text.specs.Player.{Text, Outcome, outcome, eventIn, onLine}
+use Rattle.player_text.specs.Player.{Text, Outcome, outcome, onLine}
 use Rattle.player_parts.specs.Parts.{Part, saidBefore, reads}
 use Rattle.player_parts.proofs.Loop.{lineEnd, reads-more, reads-line, reads-long}
-use Rattle.player_events.specs.Lines.{between, LineTo, lineTo, Finds}
+use Rattle.player_next.specs.Lines.{between, LineTo}
 use Rattle.player_events.specs.Stretches.{Plays}
 
 -- A whole line of any length: one that is too long is judged before its end, and the run is over.
@@ -112,12 +110,3 @@ module _ {line page after : List ℕ} {n : ℕ} (p : Printed line page after n) 
 
   pub copied : {out copy : List ℕ} {at to : ℕ} → at + pageLength ≤ length out → Wrote (take n after) at out copy to → Wrote line at out copy to × (to ≤ length out)
   copied room w = let b = w .behind in let f = fits-page in (rw (p .text) at w, omega arith)
-
--- the line that `find` found
-pub found : (bytes : List ℕ) (from end : ℕ) → end ≡ from + indexOf 10 (slice from (length bytes) bytes) → end ≡ from + indexOf 10 (drop from bytes)
-unfolding slice
-found bytes from end h = rw (take-length bytes) at h
-
-pub finds : (bytes : List ℕ) (from end : ℕ) → LineTo end from bytes → (o : Option Event) → eventIn (meaningOf (between from end bytes)) ≡ o → Finds bytes from (lineTo o end)
-finds bytes from end l none e = (l, e)
-finds bytes from end l (some x) e = (l, e)

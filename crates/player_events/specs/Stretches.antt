@@ -15,7 +15,7 @@ use Rattle.player_text.specs.declared.Stage.the-variants.{Events, Over}
 use Rattle.player_text.specs.Player.{Text, counted}
 use Rattle.player_text.specs.Calls.{text, over, PlayerFits}
 use Rattle.player_events.specs.declared.Stretch.{Stretch}
-use Rattle.player_events.specs.Lines.{between, NoLine}
+use Rattle.player_next.specs.Lines.{between, NoLine}
 
 -- the player p, among its events, with other places, another rig and another count
 abbrev pub playerAt : Player → ℕ → ℕ → Rig → ℕ → Player

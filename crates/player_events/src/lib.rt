@@ -3,20 +3,19 @@ use event_at_site::step_at;
 use event_sites::actor;
 use event_sites::counted_on;
 use event_sites::place_of;
-use list_rows::Outbox;
 use list_rows::Rows;
 use player_bytes::put_word;
 use player_counts::inside;
 use player_counts::waiting;
-use player_grammar::Line;
-use player_grammar::meaning;
+use player_next::Next;
+use player_next::next_line;
 use player_printing::PAGE_LENGTH;
 use player_printing::step_line;
 use player_text::Player;
 use player_text::Stage;
 use player_text::one_more;
 use player_text::stop;
-use rig::Event;
+use rig::Message;
 use rig::Mode;
 use rig::Rig;
 use rig::Site;
@@ -30,50 +29,15 @@ ghost use lib.ListN.{length};
 ghost use Rattle.player_printing.specs.Printing.{stepLine, pageLength};
 ghost use Rattle.player_bytes.specs.Wrote.{Wrote};
 ghost use Rattle.player_text.specs.declared.Stage.the-variants.{Events};
-ghost use Rattle.player_text.specs.Player.{eventIn};
 ghost use Rattle.player_text.specs.Calls.{PlayerFits};
-ghost use Rattle.player_events.specs.Lines.{lineTo, Finds};
 ghost use Rattle.player_events.specs.Kinds.{sameKind};
 ghost use Rattle.player_events.specs.Stretches.{playerAt, Stops, LeavesStretch};
-
-// What stands at a place of the text: a whole line with an event, or another whole line, each with the place of its byte 10; or no whole line.
-enum Next {
-    Event(Event, usize),
-    Other(usize),
-    Nothing,
-}
 
 // The player after a stretch of the text, the bytes of the text that are read, and the bytes of the output that are used.
 pub struct Stretch {
     pub player: Player,
     pub from: usize,
     pub at: usize,
-}
-
-// What a line means that ends at `end`.
-fn line_to(m: Line, end: usize) -> Next
-    ensures { λ r. ⌜ r ≡ lineTo (eventIn m) end ⌝ }
-{
-    match m {
-        Line::Ask(s) => Next::Event(Event::Ask(s), end),
-        Line::Leave(s) => Next::Event(Event::Leave(s), end),
-        Line::Move(a, b) => Next::Event(Event::Deliver(a, b), end),
-        Line::Sites(n) => Next::Other(end),
-        Line::Set(s) => Next::Other(end),
-        Line::Malformed => Next::Other(end),
-    }
-}
-
-// The line that starts at `from`.
-fn next_line(text: &[u8], from: usize) -> Next
-    requires { ⌜ from ≤ length (now text) ⌝ }
-    ensures { λ r. ⌜ Finds (now (text .entry)) from r ⌝ }
-{
-    let end = bytes::scan::find(text, from, text.len(), 10);
-    if end >= text.len() {
-        return Next::Nothing;
-    }
-    line_to(meaning(&text[from..end]), end)
 }
 
 // Whether two sites are of one kind: at rest, waiting or inside.
@@ -147,7 +111,6 @@ pub fn play_events(
     p: Player,
     tables: &mut Tables,
     list: &mut Rows,
-    sent: &mut Outbox,
     text: &[u8],
     from: usize,
     out: &mut [u8],
@@ -156,6 +119,7 @@ pub fn play_events(
     requires { ⌜ PlayerFits p (now tables) (now list) × (p .stage ≡ Events) × (from ≤ length (now text)) × (at ≤ length (now out)) ⌝ }
     ensures { λ r. ⌜ LeavesStretch p tables list (now (text .entry)) from out at r ⌝ }
 {
+    let mut sent = [[0; Message::FIELDS]; Rig::SENT];
     let mut rig = p.rig;
     let mut count = p.count;
     let mut step = p.step;
@@ -187,7 +151,7 @@ pub fn play_events(
                     tables,
                     list,
                     count,
-                    sent,
+                    &mut sent,
                     e,
                 );
                 let site_after = done.site;

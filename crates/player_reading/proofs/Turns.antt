@@ -19,7 +19,7 @@ use Rattle.player_cuts.specs.Joins.{Joins, joins, joined}
 use Rattle.player_parts.specs.Parts.{Part, reads}
 use Rattle.player_parts.proofs.Loop.{reads-more}
 use Rattle.player_events.specs.declared.Stretch.{Stretch}
-use Rattle.player_events.specs.Lines.{between}
+use Rattle.player_next.specs.Lines.{between}
 use Rattle.player_reading.specs.Reading.{ReadTo, GoesOn}
 
 -- what a part leaves that ends where the line j is joined

@@ -13,7 +13,7 @@ use Rattle.player_text.specs.Calls.{before, text, PlayerFits}
 use Rattle.player_parts.specs.Parts.{reads}
 use Rattle.player_events.specs.declared.Stretch.{Stretch}
 use Rattle.player_events.specs.Stretches.{Plays}
-use Rattle.player_events.specs.Lines.{between}
+use Rattle.player_next.specs.Lines.{between}
 use Rattle.player_reading.specs.declared.PartRead.{PartRead}
 
 -- Of the bytes given, `from` are read. What they print, as a part behind the bytes `line`, stands in the first `at` bytes of the output, and the

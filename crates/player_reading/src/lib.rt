@@ -9,8 +9,6 @@ use player_lines::line;
 use player_printing::PAGE_LENGTH;
 use player_text::Player;
 use player_text::Stage;
-use rig::Message;
-use rig::Rig;
 use rig::Tables;
 ghost use Prim.Native.Nat.{_≤_};
 ghost use lib.ListN.{length, take};
@@ -42,10 +40,7 @@ fn play_on(
 {
     let stage = p.stage;
     match stage {
-        Stage::Events => {
-            let mut sent = [[0; Message::FIELDS]; Rig::SENT];
-            play_events(p, tables, list, &mut sent, given, from, out, at)
-        },
+        Stage::Events => play_events(p, tables, list, given, from, out, at),
         _ => Stretch {
             player: p,
             from: from,

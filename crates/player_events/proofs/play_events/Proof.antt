@@ -12,8 +12,8 @@ use Rattle.model.specs.Event.{actor}
 use Rattle.model.specs.Run.{waitingCount}
 use Rattle.model.specs.Printed.{insideUpTo}
 use Rattle.event_sites.specs.Places.{placeOf}
-use Rattle.player_events.specs.declared.Next.the-variants.{Event as EventTo}
-use Rattle.player_events.specs.Lines.{Finds}
+use Rattle.player_next.specs.declared.Next.the-variants.{Event as EventTo}
+use Rattle.player_next.specs.Lines.{Finds}
 use Rattle.player_events.proofs.Counts.{inside-kept, waiting-kept}
 use Rattle.player_events.proofs.Reading.{next-fits, less-left}
 use Rattle.player_events.proofs.Going.{Going, begins, turn-ready, turn-size, turn-accepted, turn-goes, turn-stops, turn-full, turn-ends}
@@ -25,7 +25,7 @@ use Rattle.event_sites.proofs.counted_on.Reads as counted-on-reads
 use Rattle.event_sites.proofs.place_of.Reads as place-of-reads
 use Rattle.player_counts.proofs.inside.Reads as inside-reads
 use Rattle.player_counts.proofs.waiting.Reads as waiting-reads
-use Rattle.player_events.proofs.next_line.Reads as next-line-reads
+use Rattle.player_next.proofs.next_line.Reads as next-line-reads
 use Rattle.player_events.proofs.player_at.Reads as player-at-reads
 use Rattle.player_events.proofs.print_step.Reads as print-step-reads
 use Rattle.player_events.proofs.same_kind.Reads as same-kind-reads
@@ -33,11 +33,11 @@ use Rattle.player_events.proofs.stop_here.Reads as stop-here-reads
 use Rattle.player_text.proofs.one_more.Reads as one-more-reads
 
 abbrev Inv-loop : tie.InvT-loop
-Inv-loop p tables₀ list₀ sent₀ text from out₀ at rig₀ count₀ step₀ line₀ now-inside₀ now-waiting₀ read₀ to₀ tables list sent out rig count step line now-inside now-waiting read to =
+Inv-loop p tables₀ list₀ text from out₀ at sent₀ rig₀ count₀ step₀ line₀ now-inside₀ now-waiting₀ read₀ to₀ tables list out sent rig count step line now-inside now-waiting read to =
     Going p tables₀ list₀ text from out₀ at tables list out rig count step line now-inside now-waiting read to
 
 abbrev μ-loop : tie.MeasureT-loop
-μ-loop p tables₀ list₀ sent₀ text from out₀ at rig₀ count₀ step₀ line₀ now-inside₀ now-waiting₀ read₀ to₀ tables list sent out rig count step line now-inside now-waiting read to =
+μ-loop p tables₀ list₀ text from out₀ at sent₀ rig₀ count₀ step₀ line₀ now-inside₀ now-waiting₀ read₀ to₀ tables list out sent rig count step line now-inside now-waiting read to =
     length text - read
 
 inside-requires : tie.Need-inside-requires Inv-loop μ-loop
@@ -67,7 +67,7 @@ player-at-requires c κs = search needs
 add-stop-here : tie.Need-add-stop-here Inv-loop μ-loop
 add-stop-here c =
     let f = rw (c .before .before .before .next .given .1) at (c .before .before .before .before .before .next-line .ensures) in
-    record { fits = next-fits (f .0) (c .before .before .before .before .before .before .before .before .before .before .before .before .before .good .1 .1 .1 .1 .0 .0) }
+    record { fits = next-fits (f .0) (c .before .before .before .before .before .before .before .before .before .before .before .before .before .good .1 .1 .1 .0 .0) }
 
 stop-here-requires : tie.Need-stop-here-requires Inv-loop μ-loop
 stop-here-requires c κs = search needs
@@ -185,7 +185,7 @@ print-step-requires c κs =
 add-read : tie.Need-add-read Inv-loop μ-loop
 add-read c =
     let at = placed (c .before .before .before .before .before .before .before) in
-    record { fits = next-fits (found at .0) (at .before .before .before .before .before .before .before .before .before .before .before .before .before .good .1 .1 .1 .1 .0 .0) }
+    record { fits = next-fits (found at .0) (at .before .before .before .before .before .before .before .before .before .before .before .before .before .good .1 .1 .1 .0 .0) }
 
 loop-less : tie.Need-loop-less Inv-loop μ-loop
 loop-less c = less-left (found (placed (c .before .before .before .before .before .before .before)) .0)

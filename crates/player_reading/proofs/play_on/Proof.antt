@@ -10,7 +10,7 @@ enum-told : tie.Need-enum-told
 enum-told c = search needs
 
 play-events-requires : tie.Need-play-events-requires
-play-events-requires c κs = let p = c .before .before .before .before .before .before .before .before .pre in (p .0, c .before .before .before .before .enum-told .given .1, p .1, p .2)
+play-events-requires c κs = let p = c .before .before .before .before .before .before .before .pre in (p .0, c .before .before .before .enum-told .given .1, p .1, p .2)
 
 same-length : tie.Need-same-length
 same-length c = search needs

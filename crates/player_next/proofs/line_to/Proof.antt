@@ -1,8 +1,8 @@
 -- `line_to`: by what the line means.
 use borrow.Author.Needs.{needs}
 use Rattle.player_text.specs.Player.{eventIn}
-use Rattle.player_events.proofs.line_to.Statement.{statement}
-use Rattle.player_events.proofs.line_to.Tie as tie
+use Rattle.player_next.proofs.line_to.Statement.{statement}
+use Rattle.player_next.proofs.line_to.Tie as tie
 
 enum-known-m : tie.Need-enum-known-m
 enum-known-m c = search needs

@@ -5,11 +5,11 @@ use native.Mathlib.Omega.{arith}
 use lib.ListN.{length-drop}
 use borrow.Author.Needs.{needs}
 use Rattle.player_text.specs.Player.{eventIn}
-use Rattle.player_events.proofs.Reading.{found, finds}
-use Rattle.player_events.proofs.next_line.Statement.{statement}
-use Rattle.player_events.proofs.next_line.Tie as tie
+use Rattle.player_next.proofs.Found.{found, finds}
+use Rattle.player_next.proofs.next_line.Statement.{statement}
+use Rattle.player_next.proofs.next_line.Tie as tie
 use Rattle.bytes.proofs.scan.find.Reads as find-reads
-use Rattle.player_events.proofs.line_to.Reads as line-to-reads
+use Rattle.player_next.proofs.line_to.Reads as line-to-reads
 use Rattle.player_grammar.proofs.meaning.Reads as meaning-reads
 
 find-requires : tie.Need-find-requires

@@ -8,8 +8,8 @@ use Rattle.bytes.specs.Bytes.{indexOf}
 use Rattle.rig.specs.declared.Event as R
 use Rattle.player_grammar.specs.Grammar.{meaningOf}
 use Rattle.player_text.specs.Player.{eventIn}
-use Rattle.player_events.specs.declared.Next.{Next}
-use Rattle.player_events.specs.declared.Next.the-variants.{Event, Other, Nothing}
+use Rattle.player_next.specs.declared.Next.{Next}
+use Rattle.player_next.specs.declared.Next.the-variants.{Event, Other, Nothing}
 
 -- the bytes from one place up to another
 abbrev pub between : ℕ → ℕ → List ℕ → List ℕ
