@@ -7,7 +7,7 @@ use mathlib.Core.Path.{_≡_}
 use lib.ListN.{length}
 use Rattle.player_printing.specs.Printing.{pageLength}
 use Rattle.player_text.specs.declared.Stage.the-variants.{Over}
-use Rattle.player_events.specs.Lines.{NoLine}
+use Rattle.player_next.specs.Lines.{NoLine}
 use Rattle.client_steps.specs.declared.Ending.{Ending}
 
 -- It is done where no whole line is left. Else the run has ended, or the output has no room for another line.

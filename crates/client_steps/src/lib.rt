@@ -45,14 +45,13 @@ pub fn play_stretch(
     p: Player,
     tables: &mut Tables,
     list: &mut Rows,
-    sent: &mut Outbox,
     text: &[u8],
     out: &mut [u8],
 ) -> Ending
     requires { ⌜ PlayerFits p (now tables) (now list) × (p .stage ≡ Events) ⌝ }
     ensures { λ r. ⌜ EndsAt (now (text .entry)) (now (out .entry)) r ⌝ }
 {
-    let stretch = play_events(p, tables, list, sent, text, 0, out, 0);
+    let stretch = play_events(p, tables, list, text, 0, out, 0);
     let at = stretch.at;
     let player = stretch.player;
     let stage = player.stage;
