@@ -52,7 +52,7 @@ use denote.Triple.Entry.{onEntry}
 use denote.Triple.Spec.{Meets, tripleOf}
 use denote.Triple.Table.{entered, cited}
 use denote.Triple.Walked.{says, needs, Stays, stay-dropped, stay-slice, walkOf, AllGo, Walks, ends-at, walked, goes-dropped, goes-slice, walk-meets}
-use Rattle.list_lent.proofs.Walks.{vals, after, less-left, fits-below, next-fits}
+use Rattle.list_lent.proofs.Walks.{vals, after, operand, less-left, fits-below, next-fits}
 use Rattle.rig.specs.declared.Message.{Message}
 use Rattle.rig.proofs.Message as T
 use Rattle.rig.proofs.Message.Laws as T′
@@ -232,7 +232,7 @@ module _ {M : Type 1} (𝓤 : URA M) (H : Heap 𝓤) (A : Atoms 𝓤) (W : Given
         move ! (3 ∷ []) $ res-dup ! $ move ! (4 ∷ []) $ shr-bor-dup ! $ move ! (2 ∷ 0 ∷ []) $ fjoin ! $ pureI ! (at-slice B xs′ (s′ ∷ [])) (tt, (tt, tt)) (refl, room′) $ fjoin ! $
         -- [what rows owns; the rows' borrow; what is known of them; the list; the rows' token; the list's open borrow; obs; auth; _10; …]
         move ! (4 ∷ 0 ∷ []) $ use2 W (raw (RowMessage 𝓤 H A mem′ run .pre (to-message (i .0)))) (goes-message (i .0) (has-row less) (small less)) $
-        calls-at ! (fmOf 𝓤 H (W .laws) 𝓣) (RowMessage 𝓤 H A mem′ run) known-message (to-message (i .0)) (and-then ! (load ! (from ! (stop !)) (look ! 21 refl)) (and-then ! (load ! (from ! (stop !)) (look ! 19 refl)) (no-more !))) (λ v.
+        calls-at ! (fmOf 𝓤 H (W .laws) 𝓣) (RowMessage 𝓤 H A mem′ run) known-message (to-message (i .0)) (and-then ! (load ! (from ! (stop !)) (look ! 21 refl)) (and-then ! (operand ! 27 refl) (no-more !))) (λ v.
         use1 W (later (some (λ (r : Message). ((‵ (flft κ′ q′) ⊛ ‵ ftrue) ⊛ ‵ (T.the-row .own r (v ∷ []))) ⊛ raw (ensured 𝓤 H A row-message.ended (row-message.clauses 𝓤 H A mem′ run) (κ′, tt) (xs′, (i .0, tt)) tt r)))) (id⊢ 𝓤 _) $ await ! tt $ pick ! (λ r₁.
         split ! $ move ! (1 ∷ []) $ use1 W (raw (fact 𝓤 (r₁ ≡ said (i .0)))) (heard-message (i .0) r₁) $ heard ! (r₁ ≡ said (i .0)) (λ e₁. split ! $ split ! $ move ! (2 ∷ []) $ facts ! T.the-row (Is T.the-row) (shows 𝓤 H A T.the-row) r₁ (v ∷ []) (λ is₁. move ! (1 ∷ []) $ drop ! $
         -- [the rows' token; their borrow; what is known of them; the list; its open borrow; obs; auth; _10; …]
@@ -245,7 +245,7 @@ module _ {M : Type 1} (𝓤 : URA M) (H : Heap 𝓤) (A : Atoms 𝓤) (W : Given
         rewrite ! 0 (λ (k : ℕ). ‵ (MutSlice (named 0) (α ∷ []) T.the-row .own (xs δ (zs (i .0))) (sliceVal (bk, o) k ∷ []))) same refl $
         move ! (2 ∷ 0 ∷ []) $ use2 W (raw (Append 𝓤 H A mem′ run .pre (to-append α δ (i .0)))) (goes-append α δ (i .0) (has-place less) (small less) (is-said r₁ v e₁ is₁)) $
         -- [what `append` asks; the lender's part; the rows' token; their borrow; what is known of them; the list's open borrow; obs; auth; _10; …]
-        calls-at ! (fmOf 𝓤 H (W .laws) 𝓣) (Append 𝓤 H A mem′ run) known-append (to-append α δ (i .0)) (and-then ! (load ! (from ! (stop !)) (look ! 10 refl)) (and-then ! (load ! (from ! (stop !)) (look ! 20 refl)) (and-then ! (load ! (from ! (stop !)) (look ! 8 refl)) (no-more !)))) (λ z.
+        calls-at ! (fmOf 𝓤 H (W .laws) 𝓣) (Append 𝓤 H A mem′ run) known-append (to-append α δ (i .0)) (and-then ! (load ! (from ! (stop !)) (look ! 10 refl)) (and-then ! (operand ! 28 refl) (and-then ! (load ! (from ! (stop !)) (look ! 8 refl)) (no-more !)))) (λ z.
         use1 W (later (some (λ (r : ℕ). ((‵ (flft (α ∷ []) fullShare) ⊛ ‵ ftrue) ⊛ ‵ (usize .own r (z ∷ []))) ⊛ raw (ensured 𝓤 H A append.ended (append.clauses 𝓤 H A mem′ run) (α ∷ [], tt) (xs δ (zs (i .0)), (i .0, (said (i .0), tt))) tt r)))) (id⊢ 𝓤 _) $ await ! tt $ pick ! (λ r₂.
         split ! $ move ! (1 ∷ []) $ use1 W (some (λ (ws : List Message × (Unit {0} × (Unit {0} × Unit {0}))). ‵ (lasts append.ended (α ∷ [], tt) (xs δ (zs (i .0)), (i .0, (said (i .0), tt))) ws) ⊛ raw (fact 𝓤 ((r₂ ≡ i .0 + 1) × (ws .0 ≡ set (zs (i .0)) (i .0) (said (i .0))))))) (id⊢ 𝓤 _) $ pick ! (λ ws.
         split ! $ move ! (1 ∷ []) $ heard ! ((r₂ ≡ i .0 + 1) × (ws .0 ≡ set (zs (i .0)) (i .0) (said (i .0)))) (λ e₂. fsplit ! $ fsplit ! $ move ! (1 ∷ []) $ feqL ! (λ _.

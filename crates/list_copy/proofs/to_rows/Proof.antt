@@ -52,7 +52,7 @@ use denote.Triple.Entry.{onEntry}
 use denote.Triple.Spec.{Meets, tripleOf}
 use denote.Triple.Table.{entered, cited}
 use denote.Triple.Walked.{says, needs, Stays, stay-dropped, stay-slice, walkOf, AllGo, Walks, ends-at, walked, goes-dropped, goes-slice, walk-meets}
-use Rattle.list_lent.proofs.Walks.{vals, after, place-fits, less-left, fits-below, next-fits}
+use Rattle.list_lent.proofs.Walks.{vals, after, operand, place-fits, less-left, fits-below, next-fits}
 use Rattle.rig.specs.declared.Message.{Message}
 use Rattle.rig.proofs.Message as T
 use Rattle.rig.proofs.Message.Laws as T′
@@ -212,7 +212,7 @@ module _ {M : Type 1} (𝓤 : URA M) (H : Heap 𝓤) (A : Atoms 𝓤) (W : Given
         rewrite ! 0 (λ (k : ℕ). ‵ (MutSlice (named 0) (α ∷ []) B .own (xs δ (zs (i .0))) (sliceVal (rb, ro) k ∷ []))) (len (i .0) (i .1)) refl $
         move ! (2 ∷ 0 ∷ []) $ use2 W (raw (PutRow 𝓤 H A mem′ run .pre (to-put α δ (i .0)))) (goes-put α δ (i .0) (in-rows less) (fits-below (i .0) n (below less) gn) g) $
         -- [what `put_row` asks; the lender's part; the list's token; its borrow; the rows' open borrow; obs; auth; _11; …]
-        calls-at ! (fmOf 𝓤 H (W .laws) 𝓣) (PutRow 𝓤 H A mem′ run) known (to-put α δ (i .0)) (and-then ! (load ! (from ! (stop !)) (look ! 13 refl)) (and-then ! (load ! (from ! (stop !)) (look ! 21 refl)) (and-then ! (load ! (from ! (stop !)) (look ! 7 refl)) (no-more !)))) (λ z.
+        calls-at ! (fmOf 𝓤 H (W .laws) 𝓣) (PutRow 𝓤 H A mem′ run) known (to-put α δ (i .0)) (and-then ! (load ! (from ! (stop !)) (look ! 13 refl)) (and-then ! (operand ! 29 refl) (and-then ! (load ! (from ! (stop !)) (look ! 7 refl)) (no-more !)))) (λ z.
         use1 W (later (some (λ (r : Unit {0}). ((‵ (flft (α ∷ []) fullShare) ⊛ ‵ ftrue) ⊛ ‵ (unit .own r (z ∷ []))) ⊛ raw (ensured 𝓤 H A put-row.ended (put-row.clauses 𝓤 H A mem′ run) (α ∷ [], tt) (xs δ (zs (i .0)), (i .0, (elem (i .0), tt))) tt r)))) (id⊢ 𝓤 _) $ await ! tt $ pick ! (λ r.
         split ! $ move ! (1 ∷ []) $ use1 W (some (λ (ws : List (List ℕ) × (Unit {0} × (Unit {0} × Unit {0}))). ‵ (lasts put-row.ended (α ∷ [], tt) (xs δ (zs (i .0)), (i .0, (elem (i .0), tt))) ws) ⊛ raw (fact 𝓤 (ws .0 ≡ set (zs (i .0)) (i .0) (rowOf (elem (i .0))))))) (id⊢ 𝓤 _) $ pick ! (λ ws.
         split ! $ move ! (1 ∷ []) $ heard ! (ws .0 ≡ set (zs (i .0)) (i .0) (rowOf (elem (i .0)))) (λ e. fsplit ! $ fsplit ! $ move ! (1 ∷ []) $ feqL ! (λ _.
