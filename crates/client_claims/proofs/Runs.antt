@@ -1,14 +1,19 @@
--- What demand 3 of a state says of its sites.
+-- What demand 3 of a state says of its sites, and what holds of its first message.
 use Prim.Native.Nat.{ℕ, _≤_}
 use mathlib.Core.Path.{_≡_, refl}
 use mathlib.Core.Logic.{_≢_}
 use mathlib.Core.Bool.{Bool, true, false, not}
+use mathlib.Core.List.{List, _∷_}
 use native.Mathlib.Omega.{arith}
 use lib.Dec.{eqb, leb}
 use borrow.Author.Tests.{eq-eqb, ne-eqb, eqb-true, eqb-false, leb-true, leb-false, le-leb}
 use Rattle.basics.specs.Helpers.{count}
 use Rattle.basics.proofs.Basics.{by-bool, clash, and-split, and-true, not-of}
-use Rattle.model.specs.State.{Stored, inRange, modeIn, isInside, isWaiting, heldOf}
+use Rattle.rig.specs.declared.Message.{Message}
+use Rattle.rig.specs.Messages.{REPLY}
+use Rattle.model.specs.State.{Tables, Stored, inRange, modeIn, isInside, isWaiting, heldOf, deskOf}
+use Rattle.model.specs.Site.{takes}
+use Rattle.model.specs.Always.{fitsRule, allFit}
 use Rattle.model.specs.Run.{heldAt, places, insideCount, waitingCount, stuck, Sound}
 use Rattle.client_claims.specs.Claims.{IsSite}
 use Rattle.client_claims.proofs.Counts.{count-at, count-two, count-found}
@@ -52,3 +57,7 @@ module _ (s : Stored) (d : Sound s) where
       (λ t. clash true refl (rw (eq-eqb (s .count) 0 none, t, waits) at (d .notStuck)))
       (λ t. let r = count-found (λ i. isInside (modeIn (s .tables .rig) i)) n (eqb-false (insideCount (s .tables .rig)) 0 t) in
       (r .0, and-true _ _ (le-leb 1 (r .0) (r .1)) (le-leb (r .0) n (r .2)), r .3))
+
+pub reply-fits : (t : Tables) (m : Message) (ms : List Message) → allFit t (m ∷ ms) ≡ true → m .kind ≡ REPLY → takes (deskOf t (m .to)) (m .about) ≡ true
+unfolding allFit fitsRule
+reply-fits t m ms fit e = rw (eq-eqb (m .kind) REPLY e) at (and-split (fitsRule t m) (allFit t ms) fit .0)

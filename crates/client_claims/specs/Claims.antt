@@ -1,5 +1,5 @@
 -- What the claims about runs and about texts say of single sites, events and cuts.
-use Prim.Native.Nat.{ℕ}
+use Prim.Native.Nat.{ℕ, _*_, _≤_}
 use mathlib.Core.Path.{_≡_}
 use mathlib.Core.Logic.{_≢_}
 use mathlib.Core.Bool.{true}
@@ -8,8 +8,10 @@ use lib.ListN.{length}
 use Rattle.rig.specs.declared.Event.{Event}
 use Rattle.rig.specs.declared.Message.{Message}
 use Rattle.rig.specs.Limits.{messageLimit, eventLimit}
+use Rattle.rig.specs.Messages.{REPLY}
 use Rattle.model.specs.Setup.{setupCode}
-use Rattle.model.specs.State.{Stored, inRange, modeIn, isInside, isWaiting, heldOf}
+use Rattle.model.specs.State.{Stored, underWay, inRange, modeIn, isInside, isWaiting, siteOf, arbiterOf, heldOf, deskOf}
+use Rattle.model.specs.Site.{takes}
 use Rattle.model.specs.Event.{event}
 use Rattle.model.specs.Run.{fresh, run, Always}
 use Rattle.player_text.specs.Player.{start, output}
@@ -44,6 +46,19 @@ CodesOfRuns =
     (event (run (fresh n sets list) es) e .code ≢ 10)
     × (event (run (fresh n sets list) es) e .code ≢ 13)
     × (event (run (fresh n sets list) es) e .code ≡ 9 → run (fresh n sets list) es .tables .rig .accepted ≡ eventLimit)
+
+-- no site's clock and no arbiter's grant number passes twice the accepted events
+unfoldable pub NumbersOfRuns : Type 0
+NumbersOfRuns =
+    Always (λ s. (k : ℕ) →
+    (siteOf (s .tables) k .clock ≤ 2 * s .tables .rig .accepted)
+    × (arbiterOf (s .tables) k .grant ≤ 2 * s .tables .rig .accepted))
+
+-- a reply that is the first message under way is taken by its receiver
+unfoldable pub ReplyTaken : Type 0
+ReplyTaken =
+    Always (λ s. (m : Message) (ms : List Message) → underWay s ≡ m ∷ ms → m .kind ≡ REPLY →
+    takes (deskOf (s .tables) (m .to)) (m .about) ≡ true)
 
 -- a text cut once prints what the whole text prints
 unfoldable pub CutOnce : Type 0

@@ -1,6 +1,6 @@
 // Callers of the functions whose contracts are the claims: what they promise follows from those contracts alone. Each answers 0.
 ghost use mathlib.Core.Path.{_≡_};
-ghost use Rattle.client_claims.specs.Claims.{NeverTwo, OneHolder, SomeoneInside, CodesOfRuns, CutOnce};
+ghost use Rattle.client_claims.specs.Claims.{NeverTwo, OneHolder, SomeoneInside, CodesOfRuns, NumbersOfRuns, ReplyTaken, CutOnce};
 
 // Demand 3, site by site.
 pub fn sites() -> u8
@@ -9,9 +9,9 @@ pub fn sites() -> u8
     model::demand_3()
 }
 
-// The codes that no event of a run gets.
-pub fn codes() -> u8
-    ensures { λ r. ⌜ (r ≡ 0) × CodesOfRuns ⌝ }
+// Beyond demand 3: codes, numbers and replies.
+pub fn beyond() -> u8
+    ensures { λ r. ⌜ (r ≡ 0) × CodesOfRuns × NumbersOfRuns × ReplyTaken ⌝ }
 {
     model::beyond()
 }
