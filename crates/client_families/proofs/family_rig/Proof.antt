@@ -32,7 +32,7 @@ returns-2 : tie.Need-returns-2
 returns-2 c =
     let e = c .before .before .before .before .before .generate .ensures in
     let none = c .before .before .if1 .left in
-    c .setup .ensures ∙ made-rig (c .before .before .before .before .before .before .before .args .family) (e .0 .0) (e .0 .1) none (e .1 none)
+    c .setup .ensures .0 ∙ made-rig (c .before .before .before .before .before .before .before .args .family) (e .0 .0) (e .0 .1) none (e .1 none)
 
 pub family-rig-spec : {M : Type 1} → statement M
 family-rig-spec =

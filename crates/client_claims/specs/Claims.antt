@@ -1,0 +1,65 @@
+-- What the claims about runs and about texts say of single sites, events and cuts.
+use Prim.Native.Nat.{ℕ, _*_, _≤_}
+use mathlib.Core.Path.{_≡_}
+use mathlib.Core.Logic.{_≢_}
+use mathlib.Core.Bool.{true}
+use mathlib.Core.List.{List, [], _∷_, _++_}
+use lib.ListN.{length}
+use Rattle.rig.specs.declared.Event.{Event}
+use Rattle.rig.specs.declared.Message.{Message}
+use Rattle.rig.specs.Limits.{messageLimit, eventLimit}
+use Rattle.rig.specs.Messages.{REPLY}
+use Rattle.model.specs.Setup.{setupCode}
+use Rattle.model.specs.State.{Stored, underWay, inRange, modeIn, isInside, isWaiting, siteOf, arbiterOf, heldOf, deskOf}
+use Rattle.model.specs.Site.{takes}
+use Rattle.model.specs.Event.{event}
+use Rattle.model.specs.Run.{fresh, run, Always}
+use Rattle.player_text.specs.Player.{start, output}
+use Rattle.player_parts.specs.Parts.{written}
+
+-- one of the sites of a rig
+abbrev pub IsSite : Stored → ℕ → Type 0
+IsSite s k = inRange (s .tables .rig .size) k ≡ true
+
+-- two sites that are inside are one site
+unfoldable pub NeverTwo : Type 0
+NeverTwo =
+    Always (λ s. (k l : ℕ) → IsSite s k → IsSite s l →
+    isInside (modeIn (s .tables .rig) k) ≡ true → isInside (modeIn (s .tables .rig) l) ≡ true → k ≡ l)
+
+-- two sites that hold the permission of an arbiter are one site
+unfoldable pub OneHolder : Type 0
+OneHolder =
+    Always (λ s. (j k l : ℕ) → IsSite s j → IsSite s k → IsSite s l →
+    heldOf (s .tables) k j ≢ 0 → heldOf (s .tables) l j ≢ 0 → k ≡ l)
+
+-- where a site waits and nothing is under way, a site is inside
+unfoldable pub SomeoneInside : Type 0
+SomeoneInside =
+    Always (λ s. (k : ℕ) → IsSite s k → isWaiting (modeIn (s .tables .rig) k) ≡ true → s .count ≡ 0 →
+    (l : ℕ) × IsSite s l × (isInside (modeIn (s .tables .rig) l) ≡ true))
+
+-- on a list of 1,024 entries no event of a run gets 10 or 13, and one gets 9 only once 1,000,000 events were accepted
+unfoldable pub CodesOfRuns : Type 0
+CodesOfRuns =
+    (n : ℕ) (sets : List ℕ) (list : List Message) (es : List Event) → setupCode n sets ≡ 0 → length list ≡ messageLimit → (e : Event) →
+    (event (run (fresh n sets list) es) e .code ≢ 10)
+    × (event (run (fresh n sets list) es) e .code ≢ 13)
+    × (event (run (fresh n sets list) es) e .code ≡ 9 → run (fresh n sets list) es .tables .rig .accepted ≡ eventLimit)
+
+-- no site's clock and no arbiter's grant number passes twice the accepted events
+unfoldable pub NumbersOfRuns : Type 0
+NumbersOfRuns =
+    Always (λ s. (k : ℕ) →
+    (siteOf (s .tables) k .clock ≤ 2 * s .tables .rig .accepted)
+    × (arbiterOf (s .tables) k .grant ≤ 2 * s .tables .rig .accepted))
+
+-- a reply that is the first message under way is taken by its receiver
+unfoldable pub ReplyTaken : Type 0
+ReplyTaken =
+    Always (λ s. (m : Message) (ms : List Message) → underWay s ≡ m ∷ ms → m .kind ≡ REPLY →
+    takes (deskOf (s .tables) (m .to)) (m .about) ≡ true)
+
+-- a text cut once prints what the whole text prints
+unfoldable pub CutOnce : Type 0
+CutOnce = (a b : List ℕ) → written start [] (a ∷ b ∷ []) ≡ output (a ++ b)
