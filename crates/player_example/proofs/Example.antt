@@ -1,13 +1,9 @@
--- Document 01, "The player": the printed example, its 13 steps and its whole text shown by calculation.
-use Prim.Native.Nat.{ℕ, _-_}
+-- Document 01, "The player": the whole text of the printed example, shown by calculation.
+use Prim.Native.Nat.{ℕ}
 use Prim.Native.Char.{code}
 use Prim.Native.String.{String, [] as []ˢ, _∷_ as _∷ˢ_}
 use mathlib.Core.Path.{_≡_, refl}
 use mathlib.Core.List.{List, [], _∷_, _++_}
-use lib.ListN.{replicate}
-use Rattle.rig.specs.declared.Event.{Event}
-use Rattle.rig.specs.declared.Event.the-variants.{Ask, Leave, Deliver}
-use Rattle.rig.specs.Limits.{siteLimit, messageLimit}
 use Rattle.model.specs.Tables.{at, put, cell}
 use Rattle.basics.specs.Helpers.{all, any, count, lowest, first, withoutFirst}
 use Rattle.model.specs.Sets.{member, meet, names}
@@ -20,58 +16,14 @@ use Rattle.model.specs.Arbiter.{headOf, nextHeir, granted, grantedHead, clockRa
 use Rattle.model.specs.Site.{failedSet, yielded, allHeld, entered, taken, enteredOrYielded, takes, onReply, remembered, yieldedOrRemembered, onInquire, mustYield, yieldedIf, yieldedUpTo, onFail, onTransfer}
 use Rattle.model.specs.Deliver.{between, delivered}
 use Rattle.model.specs.Shape.{isNumber, isGiven, setShaped, modeShaped, siteBlank, siteShaped, holderShaped, arbiterShaped, placeShaped, rigShaped, entryShaped, ownShaped, heirShaped, queuedShaped, everywhere, numberShaped, plainShaped, releaseShaped, aboutShaped, messageShaped, messagesShaped, tablesShaped, wellShaped}
-use Rattle.model.specs.Event.{actor, sitesNamed, takenOff, attempt, attempted, numbersUpTo, numbersFit, limitCode, blankMessage, padded, acceptedState, judged, eventAt, settled, played, tested, event}
+use Rattle.model.specs.Event.{actor, sitesNamed, takenOff, attempt, attempted, numbersUpTo, numbersFit, limitCode, padded, acceptedState, judged, eventAt, settled, played, tested, event}
 use Rattle.model.specs.Run.{fresh, waitingCount}
 use Rattle.player_numbers.specs.Numbers.{allDigits, noLeadingZero, value, number}
 use Rattle.player_grammar.specs.Grammar.{longer, parts, before, allNumbers, numbers, ascends, siteBit, withSites, setLine, one, moveLine, starts, form, eventForm, meaningOf}
 use Rattle.player_bytes.specs.Decimal.{digits, decimal}
 use Rattle.player_printing.specs.Printing.{stepLine}
 use Rattle.player_text.specs.Player.{counted, sizeIn, setIn, eventIn, onSize, allGiven, onSet, printedLine, onEvent, atStage, onLine, endsAt, onEnd, start, transcript, output}
-use Rattle.model.specs.Printed.{Line, insideUpTo, lineOf, printed}
-
--- step, code, inside, waiting, flying
-abbrev line : ℕ → ℕ → ℕ → ℕ → ℕ → Line
-line s c i w f = record { step = s; code = c; inside = i; waiting = w; flying = f }
-
--- "sites=2, set=1, set=1"
-abbrev sets : List ℕ
-sets = 1 ∷ 1 ∷ replicate (siteLimit - 2) 0
-
-abbrev events : List Event
-events =
-    Ask 1
-    ∷ Deliver 1 1
-    ∷ Deliver 1 1
-    ∷ Ask 2
-    ∷ Deliver 2 1
-    ∷ Deliver 1 1
-    ∷ Leave 1
-    ∷ Deliver 1 2
-    ∷ Deliver 1 2
-    ∷ Leave 2
-    ∷ Deliver 2 1
-    ∷ Deliver 1 1
-    ∷ Deliver 1 1
-    ∷ []
-
-pub printedExample :
-    printed 1 (fresh 2 sets (replicate messageLimit blankMessage)) events
-    ≡ line 1 0 0 1 1
-    ∷ line 2 0 0 1 1
-    ∷ line 3 0 1 0 0
-    ∷ line 4 0 1 1 1
-    ∷ line 5 0 1 1 2
-    ∷ line 6 0 1 1 1
-    ∷ line 7 0 0 1 3
-    ∷ line 8 0 0 1 2
-    ∷ line 9 0 2 0 1
-    ∷ line 10 0 0 0 2
-    ∷ line 11 0 0 0 1
-    ∷ line 12 0 0 0 0
-    ∷ line 13 7 0 0 0
-    ∷ []
-unfolding at put cell all any count member meet names sizeListed allName meetsEarlier allMeet setupCode keptSets freshRig freshTables deskOf withDesk withAccepted comesBefore headWith head requests asked handOn handOns left headOf nextHeir granted grantedHead clockRaised failFormer inquireOrFail answers queuedUp onRequest inquireIfBefore headNamed heirTakesOver holderReleases fromHolder isEarly earlyRelease onRelease onYield failedSet yielded allHeld entered taken enteredOrYielded takes onReply remembered yieldedOrRemembered onInquire mustYield yieldedIf yieldedUpTo onFail onTransfer between first withoutFirst delivered isNumber isGiven setShaped modeShaped siteBlank siteShaped holderShaped arbiterShaped placeShaped rigShaped entryShaped ownShaped heirShaped queuedShaped everywhere numberShaped plainShaped releaseShaped aboutShaped messageShaped messagesShaped tablesShaped wellShaped actor sitesNamed takenOff attempt attempted numbersUpTo numbersFit limitCode padded acceptedState judged eventAt settled played tested event fresh waitingCount lowest insideUpTo lineOf printed
-printedExample = refl
+use Rattle.model.specs.Printed.{insideUpTo, lineOf, printed}
 
 -- the bytes of a text of ASCII characters
 abbrev toBytes : String → List ℕ

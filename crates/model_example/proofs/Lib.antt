@@ -1,0 +1,2 @@
+-- What is shown of the definitions by calculation.
+pub mod Example
