@@ -15,8 +15,8 @@ play-events-requires c κs = search needs
 enum-told : tie.Need-enum-told
 enum-told c = search needs
 
-sub-t18 : tie.Need-sub-t18
-sub-t18 c = search needs
+sub-t16 : tie.Need-sub-t16
+sub-t16 c = search needs
 
 same-length : tie.Need-same-length
 same-length c = search needs
@@ -33,4 +33,4 @@ returns-2 c = ends-at (c .before .before .before .before .play-events .ensures) 
 pub play-stretch-spec : {M : Type 1} → statement M
 play-stretch-spec =
     tie.close
-    (tie.spec play-events-requires enum-told sub-t18 same-length returns same-length-2 returns-2)
+    (tie.spec play-events-requires enum-told sub-t16 same-length returns same-length-2 returns-2)
