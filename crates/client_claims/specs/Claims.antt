@@ -10,7 +10,7 @@ use Rattle.rig.specs.declared.Message.{Message}
 use Rattle.rig.specs.Limits.{messageLimit, eventLimit}
 use Rattle.rig.specs.Messages.{REPLY}
 use Rattle.model.specs.Setup.{setupCode}
-use Rattle.model.specs.State.{Stored, underWay, inRange, modeIn, isInside, isWaiting, siteOf, arbiterOf, heldOf, deskOf}
+use Rattle.model.specs.State.{Stored, underWay, inRange, siteOf, arbiterOf, heldOf, deskOf}
 use Rattle.model.specs.Site.{takes}
 use Rattle.model.specs.Event.{event}
 use Rattle.model.specs.Run.{fresh, run, Always}
@@ -21,23 +21,11 @@ use Rattle.player_parts.specs.Parts.{written}
 abbrev pub IsSite : Stored → ℕ → Type 0
 IsSite s k = inRange (s .tables .rig .size) k ≡ true
 
--- two sites that are inside are one site
-unfoldable pub NeverTwo : Type 0
-NeverTwo =
-    Always (λ s. (k l : ℕ) → IsSite s k → IsSite s l →
-    isInside (modeIn (s .tables .rig) k) ≡ true → isInside (modeIn (s .tables .rig) l) ≡ true → k ≡ l)
-
 -- two sites that hold the permission of an arbiter are one site
 unfoldable pub OneHolder : Type 0
 OneHolder =
     Always (λ s. (j k l : ℕ) → IsSite s j → IsSite s k → IsSite s l →
     heldOf (s .tables) k j ≢ 0 → heldOf (s .tables) l j ≢ 0 → k ≡ l)
-
--- where a site waits and nothing is under way, a site is inside
-unfoldable pub SomeoneInside : Type 0
-SomeoneInside =
-    Always (λ s. (k : ℕ) → IsSite s k → isWaiting (modeIn (s .tables .rig) k) ≡ true → s .count ≡ 0 →
-    (l : ℕ) × IsSite s l × (isInside (modeIn (s .tables .rig) l) ≡ true))
 
 -- on a list of 1,024 entries no event of a run gets 10 or 13, and one gets 9 only once 1,000,000 events were accepted
 unfoldable pub CodesOfRuns : Type 0

@@ -1,10 +1,10 @@
 // Callers of the functions whose contracts are the claims: what they promise follows from those contracts alone. Each answers 0.
 ghost use mathlib.Core.Path.{_≡_};
-ghost use Rattle.client_claims.specs.Claims.{NeverTwo, OneHolder, SomeoneInside, CodesOfRuns, NumbersOfRuns, ReplyTaken, CutOnce};
+ghost use Rattle.client_claims.specs.Claims.{OneHolder, CodesOfRuns, NumbersOfRuns, ReplyTaken, CutOnce};
 
-// Demand 3, site by site.
-pub fn sites() -> u8
-    ensures { λ r. ⌜ (r ≡ 0) × NeverTwo × OneHolder × SomeoneInside ⌝ }
+// Demand 3: who holds an arbiter's permission.
+pub fn holders() -> u8
+    ensures { λ r. ⌜ (r ≡ 0) × OneHolder ⌝ }
 {
     model::demand_3()
 }
