@@ -23,10 +23,6 @@ pub and-split : (a b : Bool) → a && b ≡ true → (a ≡ true) × (b ≡ true
 and-split true b e = (refl, e)
 and-split false b e = clash false e refl
 
-pub and-false : (a b : Bool) → a && b ≡ false → (a ≡ false) ⊎ (b ≡ false)
-and-false true b e = inr e
-and-false false b e = inl refl
-
 -- a test that comes second and fails
 pub and-second : (a b : Bool) → b ≡ false → a && b ≡ false
 and-second true b e = e

@@ -26,7 +26,7 @@ use Rattle.model.specs.Shape.{isNumber, isGiven, setShaped, modeShaped, siteBla
 use Rattle.model.specs.Event.{actor, sitesNamed, takenOff, attempt, attempted, numbersUpTo, numbersFit, limitCode, blankMessage, padded, acceptedState, judged, eventAt, settled, played, tested, event}
 use Rattle.model.specs.Run.{fresh}
 use Rattle.event_example.specs.States.{site, arbiter, entry, baseSets, baseHeld, baseHeir, baseQueued, baseMessages, Parts, asIs, rigWith, stateWith, base, siteIs, arbiterIs, acceptedIs, listIs, carries, many, full, sizeIs, setIs, heldIs, heirIs, inquiredIs, queuedIs, atLimits, alike}
-use Rattle.event_example.specs.Cases.{Case, misjudged, Partial, whole, wholeCases, partCases, spentCases, cases}
+use Rattle.event_example.specs.Cases.{Case, misjudged, Partial, whole, wholeCases, partCases, spentCases, cases, RefusalsChangeNothing, ZerosPastTheCount}
 
 -- the tables of numbers, which most cases share
 entriesShaped : Bool
@@ -70,20 +70,6 @@ misjudged-append (x ∷ xs) ys =
     by-bool (eqb (event (x .state) (x .event) .code) (x .code))
     (λ e. rw e (misjudged-append xs ys))
     (λ e. rw (e, misjudged-append xs ys))
-
--- an event leaves the state as it was
-abbrev Unchanged : Stored → Event → Type 0
-Unchanged s e = event s e .next ≡ s
-
--- refused with 10, and with 8
-abbrev RefusalsChangeNothing : Type 0
-RefusalsChangeNothing = Unchanged (heirIs 1 1 2 base) (Ask 2) × Unchanged (stateWith (full asIs)) (Ask 2)
-
--- accepted on a list that had messages past its count: the messages, the two that site 2 sends, and zeros
-abbrev ZerosPastTheCount : Type 0
-ZerosPastTheCount =
-    event (stateWith (listIs (baseMessages ++ many (messageLimit - 3)) 3 asIs)) (Ask 2) .next .list
-    ≡ baseMessages ++ (request 2 2 1 ∷ request 2 3 1 ∷ replicate (messageLimit - 5) blankMessage)
 
 -- what is calculated
 calculated :

@@ -1,7 +1,8 @@
 -- Document 01, "What is turned down, by operation", an event: the code that an event on a state must get, a case a line. For each clause of
--- code 10 there is a state that is wrong in one place.
+-- code 10 there is a state that is wrong in one place, or, where a receiver or N is out of range, in that place and what follows from it.
 use Prim.Native.Nat.{ℕ, _+_, _-_}
 use Prim.Native.String.{String}
+use mathlib.Core.Path.{_≡_}
 use mathlib.Core.Bool.{false, cond}
 use mathlib.Core.List.{List, [], _∷_, _++_, map}
 use lib.Dec.{eqb}
@@ -64,6 +65,7 @@ wholeCases =
     ∷ case "a set that names a site past N" (setIs 1 11 base) (Ask 2) 10
     ∷ case "sets 1 and 2 share no site" (setIs 2 4 base) (Ask 2) 10
     ∷ case "sets 2 and 3 share no site" (setIs 2 2 base) (Ask 2) 10
+    ∷ case "sets 1 and 3 share no site, while neighbours do" (setIs 1 2 (setIs 2 6 (setIs 3 4 (alike 3 7)))) (Ask 2) 10
     ∷ case "a set past N" (setIs 4 1 base) (Ask 2) 10
     ∷ case "a set at the last place" (setIs siteLimit 1 base) (Ask 2) 10
     -- an entry outside its range
@@ -75,16 +77,21 @@ wholeCases =
     ∷ case "held by a site past N" (heldIs 4 1 1 base) (Ask 2) 10
     ∷ case "held at the last place" (heldIs siteLimit siteLimit 1 base) (Ask 2) 10
     ∷ case "an heir for a non-member" (heirIs 1 3 2 base) (Ask 2) 10
+    ∷ case "an heir at the last place" (heirIs siteLimit siteLimit 1 base) (Ask 2) 10
     ∷ case "an inquire remembered for a non-member" (inquiredIs 1 3 1 base) (Ask 2) 10
+    ∷ case "an inquire remembered at the last place" (inquiredIs siteLimit siteLimit 1 base) (Ask 2) 10
     -- a tie of a site to an arbiter outside its set
     ∷ case "an heir whose set lacks the arbiter" (heirIs 1 1 2 base) (Ask 2) 10
     ∷ case "an heir past N" (heirIs 1 1 4 base) (Ask 2) 10
     ∷ case "queued where the site's set lacks the arbiter" (queuedIs 2 3 1 base) (Ask 2) 10
+    ∷ case "a queued site past N" (queuedIs 2 4 1 base) (Ask 2) 10
+    ∷ case "queued by an arbiter past N" (queuedIs 4 1 1 base) (Ask 2) 10
+    ∷ case "queued at the last place" (queuedIs siteLimit siteLimit 1 base) (Ask 2) 10
     -- 13 first, 10 before 4
     ∷ case "a list one entry short, in a misshapen state" (sizeIs 0 (stateWith (listIs (many (messageLimit - 1)) 0 asIs))) (Ask 2) 13
     ∷ case "an ask by site 0, in a misshapen state" (sizeIs 0 base) (Ask 0) 10
     -- numbers at their limits; 9 where the number of a reply would pass it
-    ∷ case "every number at its limit" atLimits (Ask 2) 0
+    ∷ case "numbers of each kind at their limits" atLimits (Ask 2) 0
     ∷ case "a leave that sends a number at the limit" (heldIs 1 1 (numberLimit - 1) (stateWith (siteIs 1 Inside 1 asIs))) (Leave 1) 0
     ∷ case "a leave that sends a number past the limit" (heldIs 1 1 numberLimit (stateWith (siteIs 1 Inside 1 asIs))) (Leave 1) 9
     ∷ []
@@ -131,6 +138,12 @@ partCases =
     ∷ carrying "number 0" (request 1 2 0) 10
     ∷ carrying "a number at the limit" (request 1 2 numberLimit) 0
     ∷ carrying "a number past the limit" (request 1 2 (numberLimit + 1)) 10
+    ∷ carrying "a reply with number 0" (reply 3 1 2 0) 10
+    ∷ carrying "a reply with a number past the limit" (reply 3 1 2 (numberLimit + 1)) 10
+    ∷ carrying "a release with number 0" (release 1 2 0 0) 10
+    ∷ carrying "an inquire with number 0" (inquire 2 1 0) 10
+    ∷ carrying "a yield with number 0" (yield 1 2 0) 10
+    ∷ carrying "a transfer with number 0" (transfer 2 1 1 0) 10
     ∷ carrying "a fail with number 1" (message FAIL 2 1 0 1) 10
     ∷ carrying "a request with about" (message REQUEST 1 2 1 1) 10
     ∷ carrying "an inquire with about" (message INQUIRE 2 1 1 1) 10
@@ -156,6 +169,7 @@ partCases =
     ∷ carrying "a transfer" (transfer 2 1 1 1) 0
     ∷ carrying "a transfer from an arbiter outside the set" (transfer 1 2 1 1) 10
     ∷ carrying "a transfer that names an heir whose set lacks the arbiter" (transfer 2 1 3 1) 10
+    ∷ carrying "a transfer that names an heir past N" (transfer 2 1 4 1) 10
     ∷ carrying "a transfer that names no heir" (transfer 2 1 0 1) 10
     -- 4, then 5, 6 and 7
     ∷ part "an ask" asIs (Ask 2) 0
@@ -176,6 +190,7 @@ partCases =
     -- then 9 for a number: a clock, a grant number with a reply, one without
     ∷ part "a clock one below the limit" (siteIs 2 Rest (numberLimit - 1) asIs) (Ask 2) 0
     ∷ part "a clock at the limit" (siteIs 2 Rest numberLimit asIs) (Ask 2) 9
+    ∷ part "an ask by a waiting site with its clock at the limit" (siteIs 1 (Waiting 1 false) numberLimit asIs) (Ask 1) 5
     ∷ part "a grant one below the limit" (arbiterIs 2 (numberLimit - 1) 0 0 asIs) (Deliver 1 2) 0
     ∷ part "a grant at the limit" (arbiterIs 2 numberLimit 0 0 asIs) (Deliver 1 2) 9
     ∷ part "an heir takes over one below the limit" (arbiterIs 1 (numberLimit - 1) 1 1 (carries (release 1 1 3 (numberLimit - 1)) asIs)) (Deliver 1 1) 0
@@ -183,6 +198,10 @@ partCases =
     -- last 8
     ∷ part "a full list, and two to send" (full asIs) (Ask 2) 8
     ∷ part "a full list, and two to send, no event left" (acceptedIs eventLimit (full asIs)) (Ask 2) 9
+    ∷ part "a full list, and two to send, the clock at the limit" (siteIs 2 Rest numberLimit (full asIs)) (Ask 2) 9
+    ∷ part "a full list, and an ask by a waiting site" (full asIs) (Ask 1) 5
+    ∷ part "a full list, and a leave by a site at rest" (full asIs) (Leave 2) 6
+    ∷ part "a full list, and a delivery with nothing under way" (full asIs) (Deliver 2 1) 7
     ∷ part "a full list, one to take off and one to send" (full asIs) (Deliver 1 2) 0
     ∷ part "a full list, one to take off and two to send" (listIs (request 3 1 1 ∷ many (messageLimit - 1)) messageLimit asIs) (Deliver 3 1) 8
     ∷ part "one place left, and two to send" (listIs (padded (many (messageLimit - 1))) (messageLimit - 1) asIs) (Ask 2) 8
@@ -203,3 +222,18 @@ spentCases =
 
 unfoldable pub cases : List Case
 cases = wholeCases ++ (map whole partCases ++ map whole spentCases)
+
+-- What an event leaves of a state
+
+abbrev pub Unchanged : Stored → Event → Type 0
+Unchanged s e = event s e .next ≡ s
+
+-- refused with 10, and with 8
+abbrev pub RefusalsChangeNothing : Type 0
+RefusalsChangeNothing = Unchanged (heirIs 1 1 2 base) (Ask 2) × Unchanged (stateWith (full asIs)) (Ask 2)
+
+-- accepted on a list that had messages past its count: the messages, the two that site 2 sends, and zeros
+abbrev pub ZerosPastTheCount : Type 0
+ZerosPastTheCount =
+    event (stateWith (listIs (baseMessages ++ many (messageLimit - 3)) 3 asIs)) (Ask 2) .next .list
+    ≡ baseMessages ++ (request 2 2 1 ∷ request 2 3 1 ∷ replicate (messageLimit - 5) blankMessage)

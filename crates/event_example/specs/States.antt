@@ -171,7 +171,7 @@ queuedIs j k n s = record {
 
 -- Other states
 
--- every number is at its limit; each tie is of site 1 to arbiter 2, and none is of site 2 to arbiter 1
+-- numbers of each kind at their limits; each tie that is added is of site 1 to arbiter 2
 unfoldable pub atLimits : Stored
 atLimits =
     heldIs 1 2 numberLimit (heirIs 1 2 1 (inquiredIs 1 2 numberLimit (queuedIs 2 1 numberLimit

@@ -1,17 +1,15 @@
--- What follows from demand 3 alone, where there is a site.
-use Prim.Native.Nat.{ℕ, _≤_}
+-- What follows from demand 3 alone.
+use Prim.Native.Nat.{ℕ}
 use mathlib.Core.Path.{_≡_, refl}
 use mathlib.Core.Bool.{Bool, true}
-use native.Mathlib.Omega.{arith}
 use borrow.Author.Tests.{eq-eqb, le-leb}
 use Rattle.basics.specs.Helpers.{any}
 use Rattle.basics.proofs.Basics.{by-bool, clash, and-true, any-at, any-of, count-any, count-unique}
 use Rattle.model.specs.State.{Stored, sizeOf, inRange, modeOf, isInside, isWaiting}
-use Rattle.model.specs.Run.{insideCount, waitingCount, stuck, Sound, Demand3}
+use Rattle.model.specs.Run.{places, insideCount, waitingCount, stuck, Sound, Demand3}
 use Rattle.model.specs.Corollaries.{SoundOneByOne, Corollaries}
-use Rattle.model.proofs.Setup.{accepts}
 use Rattle.model.proofs.Shaped.{within}
-use Rattle.model.proofs.Theorem.{run-of, demand3}
+use Rattle.model.proofs.Theorem.{demand3}
 
 module _ (s : Stored) (h : Sound s) where
   abbrev size : ℕ
@@ -30,6 +28,9 @@ module _ (s : Stored) (h : Sound s) where
       let (u, v) = within size l b in
       count-unique inside size k l (h .exclusion) p q e u v f
 
+  each-place : (j : ℕ) → inRange size j ≡ true → places s j ≡ 1
+  each-place j a = let (p, q) = within size j a in h .onePlace j p q
+
   some-inside : s .count ≡ 0 → (k : ℕ) → inRange size k ≡ true → waiting k ≡ true → (l : ℕ) × (inRange size l ≡ true) × (inside l ≡ true)
   unfolding stuck insideCount waitingCount
   some-inside c k a e =
@@ -39,14 +40,9 @@ module _ (s : Stored) (h : Sound s) where
       let z = rw (eq-eqb (s .count) 0 c, count-any inside size, t, count-any waiting size, any-of waiting size k p q e) at (h .notStuck) in
       clash true refl z)
 
-  one-by-one : 1 ≤ size → SoundOneByOne s
-  one-by-one l = record {
-    oneInside = one-inside;
-    firstPlace = h .onePlace 1 (omega arith) l;
-    lastPlace = h .onePlace size l (omega arith);
-    someInside = some-inside;
-  }
+  one-by-one : SoundOneByOne s
+  one-by-one = record { oneInside = one-inside; eachPlace = each-place; someInside = some-inside }
 
 pub corollaries : Corollaries
 unfolding Corollaries Demand3
-corollaries n sets list es e = one-by-one _ (demand3 n sets list es e) (rw (run-of n sets list es e .size) (accepts n sets e .low))
+corollaries n sets list es e = one-by-one _ (demand3 n sets list es e)

@@ -1,4 +1,4 @@
--- What demand 3 says of the sites and the arbiters one by one, without its counts. It follows from demand 3 alone.
+-- What demand 3 says of the sites one by one, without counting them, and of each arbiter. It follows from demand 3 alone.
 use Prim.Native.Nat.{ℕ}
 use mathlib.Core.Path.{_≡_}
 use mathlib.Core.Bool.{true}
@@ -10,9 +10,8 @@ pub record SoundOneByOne (s : Stored) : Type 0 where
   pub oneInside :
       (k l : ℕ) → inRange (sizeOf (s .tables)) k ≡ true → inRange (sizeOf (s .tables)) l ≡ true →
       isInside (modeOf (s .tables) k) ≡ true → isInside (modeOf (s .tables) l) ≡ true → k ≡ l
-  -- the permission of arbiter 1 is in one place, and so is that of arbiter N
-  pub firstPlace : places s 1 ≡ 1
-  pub lastPlace : places s (sizeOf (s .tables)) ≡ 1
+  -- the permission of each arbiter is in one place
+  pub eachPlace : (j : ℕ) → inRange (sizeOf (s .tables)) j ≡ true → places s j ≡ 1
   -- where nothing is under way and a site waits, a site is inside
   pub someInside :
       s .count ≡ 0 → (k : ℕ) → inRange (sizeOf (s .tables)) k ≡ true → isWaiting (modeOf (s .tables) k) ≡ true →

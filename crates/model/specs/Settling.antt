@@ -29,7 +29,7 @@ weightLimit = 7
 abbrev pub rememberedWeight : ℕ
 rememberedWeight = 3
 
--- a message weighs more than all that its delivery can add, sent or remembered; a release with an heir adds more than a plain one
+-- a message weighs more than its delivery can add to the rest of the sum; a release with an heir adds more than a plain one
 unfoldable pub weight : Message → ℕ
 weight m =
     cond (eqb (m .kind) REQUEST) weightLimit

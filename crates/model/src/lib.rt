@@ -14,8 +14,8 @@ pub fn demand_3() -> u8
     0
 }
 
-// What demand 3 alone says of the sites and the arbiters one by one: two sites inside are one site; the permissions of arbiter 1 and of
-// arbiter N are in one place; where nothing is under way and a site waits, a site is inside.
+// What demand 3 alone says of the sites one by one, without counting them, and of each arbiter: two sites inside are one site; the
+// permission of each arbiter is in one place; where nothing is under way and a site waits, a site is inside.
 pub fn corollaries() -> u8
     ensures { λ r. ⌜ (r ≡ 0) × Corollaries ⌝ }
 {
@@ -31,8 +31,9 @@ pub fn beyond() -> u8
 }
 
 // No rig exchanges messages for ever: every accepted delivery makes a sum over the messages under way and the remembered inquires smaller. An ask
-// or a leave adds at most 217 to it, so that a run has at most 217 deliveries for each of them. The sum is at most 10,051, which a well-shaped
-// state reaches. While a message is under way its delivery is refused with 8 or 9 alone; once none is, a site is inside or none waits.
+// or a leave adds at most 217 to it, so that a run has at most 217 accepted deliveries for each accepted one of them. In a well-shaped state the
+// sum is at most 10,051, and one reaches it. There, on a list of 1,024 entries, while a message is under way its delivery is refused with 8 or 9
+// alone; in a run, once none is, a site is inside or none waits.
 pub fn settles() -> u8
     ensures { λ r. ⌜ (r ≡ 0) × Settles × DeliveriesEnd × DeliveriesFew × MeasureBounded × MeasureReached × Deliverable × SettledServes ⌝ }
 {

@@ -3,16 +3,10 @@ use Prim.Native.Nat.{ℕ, zero, suc, _-_, _/_, _%_, _^_, _≤_, _<_}
 use mathlib.Core.Path.{_≡_, refl, ap}
 use mathlib.Core.Bool.{false}
 use native.Mathlib.Omega.{arith}
-use native.Mathlib.Nat.{div-lt-iff-lt-mul, zero-div}
+use native.Mathlib.Nat.{div-lt-iff-lt-mul}
 use lib.Dec.{eqb}
 use lib.Pow.{pow-pos, pow-mono}
 use Rattle.model.specs.Sets.{member}
-
--- the empty set has no member
-pub member-none : (j : ℕ) → member 0 j ≡ false
-unfolding member
-member-none zero = refl
-member-none (suc i) = rw (zero-div)
 
 -- a set of 64 bits has no member past 64
 pub member-past : (s j : ℕ) → s < 2 ^ 64 → 64 < j → member s j ≡ false

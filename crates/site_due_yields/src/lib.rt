@@ -18,7 +18,7 @@ fn must_yield(members: u64, j: u64, g: u64, q: u64) -> bool
     rig_reads::is_member(members, j) && (g != 0 && q != 0)
 }
 
-// An inner call, one turn over a site's members: site i + 1, whose entries stand at index i, is yielded if it must be.
+// An inner call: one turn over a site's members: site i + 1, whose entries stand at index i, is yielded if it must be.
 pub fn yield_if(
     number: u64,
     members: u64,
