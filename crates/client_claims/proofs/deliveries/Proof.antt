@@ -26,15 +26,15 @@ returns c =
     let d = c .before .settles .ensures in (
       b .0,
       λ n sets list es ds p long none.
-      let f = fresh n sets list in
-      let s = run f es in
-      let shaped = b .1 n sets list es p .0 in
-      let then = run-then es f ds in
-      record {
-        few = omega (arith, d .2 s ds none, d .4 s shaped);
-        settled = rw then at (d .7 n sets list (es ++ ds) p);
-        goes = d .6 (run s ds) (rw then at (b .1 n sets list (es ++ ds) p .0)) (run-long ds s (run-long es f long));
-      },
+          let f = fresh n sets list in
+          let s = run f es in
+          let shaped = b .1 n sets list es p .0 in
+          let then = run-then es f ds in
+          record {
+            few = omega (arith, d .2 s ds none, d .4 s shaped);
+            settled = rw then at (d .7 n sets list (es ++ ds) p);
+            goes = d .6 (run s ds) (rw then at (b .1 n sets list (es ++ ds) p .0)) (run-long ds s (run-long es f long));
+          },
     )
 
 pub deliveries-spec : {M : Type 1} → statement M
