@@ -69,6 +69,7 @@ module _ {u : Text} {cut text out mid : List ℕ} {n at : ℕ} (r : ReadTo start
           within = r .within;
           read = λ f. clash true refl f;
           whole = λ _. sym (ap length (printed ∙ ap (λ (l : List ℕ). take at mid ++ l) none ∙ append-nil (take at mid)) ∙ size);
+          all = λ _ f. clash over e f;
           enough = λ _. refl;
         }
 
@@ -83,6 +84,7 @@ module _ {u : Text} {cut text out mid : List ℕ} {n at : ℕ} (r : ReadTo start
       within = r .within;
       read = λ _. ap (λ (p : Part). p .said) (r .part) ∙ sym front;
       whole = λ e. clash false e refl;
+      all = λ e. clash false e refl;
       enough = λ h. let few = at-most in let long = r .long in ⊎-elim (λ w. let f = full w in absurd (omega arith)) (λ w. absurd (omega arith)) why;
     }
 
@@ -110,5 +112,6 @@ module _ {u : Text} {cut text out mid : List ℕ} {n at : ℕ} (r : ReadTo start
           within = r .within;
           read = λ f. clash true refl f;
           whole = λ _. behind;
+          all = λ _ _. let within = r .within in omega (arith, all);
           enough = λ _. refl;
         }
