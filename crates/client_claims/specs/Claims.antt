@@ -1,19 +1,23 @@
 -- What the claims about runs and about texts say of single sites, events and cuts.
 use Prim.Native.Nat.{ℕ, _*_, _≤_}
 use mathlib.Core.Path.{_≡_}
-use mathlib.Core.Logic.{_≢_}
+use mathlib.Core.Logic.{_⊎_, _≢_}
 use mathlib.Core.Bool.{true}
 use mathlib.Core.List.{List, [], _∷_, _++_}
 use lib.ListN.{length}
 use Rattle.rig.specs.declared.Event.{Event}
+use Rattle.rig.specs.declared.Event.the-variants.{Deliver}
 use Rattle.rig.specs.declared.Message.{Message}
 use Rattle.rig.specs.Limits.{messageLimit, eventLimit}
 use Rattle.rig.specs.Messages.{REPLY}
+use Rattle.basics.specs.Helpers.{tally}
 use Rattle.model.specs.Setup.{setupCode}
 use Rattle.model.specs.State.{Stored, underWay, inRange, siteOf, arbiterOf, heldOf, deskOf}
 use Rattle.model.specs.Site.{takes}
+use Rattle.model.specs.Deliver.{between}
 use Rattle.model.specs.Event.{event}
-use Rattle.model.specs.Run.{fresh, run, Always}
+use Rattle.model.specs.Run.{fresh, run, insideCount, waitingCount, Always}
+use Rattle.model.specs.Settling.{isDelivery, isTurn, acceptedOf, measureLimit, onlyLimits}
 use Rattle.player_text.specs.Player.{start, output}
 use Rattle.player_parts.specs.Parts.{written}
 
@@ -47,6 +51,19 @@ unfoldable pub ReplyTaken : Type 0
 ReplyTaken =
     Always (λ s. (m : Message) (ms : List Message) → underWay s ≡ m ∷ ms → m .kind ≡ REPLY →
     takes (deskOf (s .tables) (m .to)) (m .about) ≡ true)
+
+-- After the events ds from the state s at most 10,051 deliveries were accepted; with nothing left under way a site is inside or none waits; else the
+-- delivery of a message under way is accepted, or refused for a limit alone.
+pub record Serves (s : Stored) (ds : List Event) : Type 0 where
+  pub few : acceptedOf isDelivery s ds ≤ measureLimit
+  pub settled : run s ds .count ≡ 0 → (insideCount (run s ds .tables .rig) ≢ 0) ⊎ (waitingCount (run s ds .tables .rig) ≡ 0)
+  pub goes : (a b : ℕ) → tally (between a b) (underWay (run s ds)) ≢ 0 → onlyLimits (event (run s ds) (Deliver a b) .code) ≡ true
+
+-- so it is after deliveries alone, from a state of a run on a list of 1,024 entries
+unfoldable pub DeliveriesServe : Type 0
+DeliveriesServe =
+    (n : ℕ) (sets : List ℕ) (list : List Message) (es ds : List Event) → setupCode n sets ≡ 0 → length list ≡ messageLimit →
+    tally isTurn ds ≡ 0 → Serves (run (fresh n sets list) es) ds
 
 -- a text cut once prints what the whole text prints
 unfoldable pub CutOnce : Type 0

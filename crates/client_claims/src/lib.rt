@@ -1,6 +1,6 @@
 // Callers of the functions whose contracts are the claims: what they promise follows from those contracts alone. Each answers 0.
 ghost use mathlib.Core.Path.{_≡_};
-ghost use Rattle.client_claims.specs.Claims.{OneHolder, CodesOfRuns, NumbersOfRuns, ReplyTaken, CutOnce};
+ghost use Rattle.client_claims.specs.Claims.{OneHolder, CodesOfRuns, NumbersOfRuns, ReplyTaken, DeliveriesServe, CutOnce};
 
 // Demand 3: who holds an arbiter's permission.
 pub fn holders() -> u8
@@ -13,6 +13,15 @@ pub fn holders() -> u8
 pub fn beyond() -> u8
     ensures { λ r. ⌜ (r ≡ 0) × CodesOfRuns × NumbersOfRuns × ReplyTaken ⌝ }
 {
+    model::beyond()
+}
+
+// Deliveries alone, from a state of a run: few are accepted, and a message under way is refused for a limit alone; once none is under way, a site
+// is inside or none waits.
+pub fn deliveries() -> u8
+    ensures { λ r. ⌜ (r ≡ 0) × DeliveriesServe ⌝ }
+{
+    model::settles();
     model::beyond()
 }
 

@@ -13,8 +13,8 @@ use Rattle.list_rows.specs.State.{Lent}
 use Rattle.engine.specs.Lent.{before}
 
 -- document 01's answer to an ask by site s, on the state before the call
-abbrev pub asked : Rig → Lent (List (List (List ℕ))) → Lent (List Message) → ℕ → ℕ → Answer
-asked g ts list n s = event (before g ts list n) (Ask s)
+abbrev pub askAnswered : Rig → Lent (List (List (List ℕ))) → Lent (List Message) → ℕ → ℕ → Answer
+askAnswered g ts list n s = event (before g ts list n) (Ask s)
 
 -- lent tables hold the four tables of a state, each at its index
 abbrev pub Holds : List (List (List ℕ)) → Tables → Type 0

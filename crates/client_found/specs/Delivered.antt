@@ -21,7 +21,7 @@ use Rattle.event_storing.specs.Outbox.{Sends}
 abbrev pub takenAt : Desk → List Message → ℕ → Attempt
 takenAt d ms place = possible (delivered d (getD ms place blankMessage)) (take place ms ++ drop (suc place) ms)
 
--- At a place: that message is delivered. Nowhere: 7, and nothing changes.
+-- At a place: the delivery of that message, judged by the limits. Nowhere: 7, and nothing changes.
 abbrev pub Delivers : Found → ℕ → ℕ → Desk → ℕ → Lent (List (List (List ℕ))) → Lent (List (List ℕ)) → Lent (List (List ℕ)) → Done → Type 0
 Delivers (At place) accepted b d n ts rows out r =
     Leaves (judged accepted d (messagesIn n (now (rows .entry))) (takenAt d (messagesIn n (now (rows .entry))) place)) b n ts rows r

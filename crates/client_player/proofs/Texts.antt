@@ -38,12 +38,19 @@ module _ {u : Text} {cut text out mid : List ℕ} {n at : ℕ} (r : ReadTo start
   at-most : at ≤ length (output text)
   at-most = omega (arith, ap length printed, length-append (take at mid) (transcript u cut (drop n text)), size)
 
+  front : take at (output text) ≡ take at mid
+  front = ap (λ (l : List ℕ). take at l) printed ∙ take-at (take at mid) _ at size
+
   -- the output as the part leaves it
   so-far : mid ≡ take at (output text) ++ drop at out
   so-far =
       sym (take-append-drop at mid)
       ∙ ap (λ (l : List ℕ). take at mid ++ l) (r .rest)
-      ∙ ap (λ (l : List ℕ). l ++ drop at out) (sym (ap (λ (l : List ℕ). take at l) printed ∙ take-at (take at mid) _ at size))
+      ∙ ap (λ (l : List ℕ). l ++ drop at out) (sym front)
+
+  -- it is no shorter than what is written
+  inside : at ≤ length out
+  inside = let room = r .room in let long = r .long in omega arith
 
   -- whether the run has ended
   module _ {over : Bool} (asked : over ≡ overAt (u .stage)) where
@@ -57,9 +64,12 @@ module _ {u : Text} {cut text out mid : List ℕ} {n at : ℕ} (r : ReadTo start
         record {
           printed = so-far;
           long = r .long;
+          room = inside;
           over = told;
           within = r .within;
+          read = λ f. clash true refl f;
           whole = λ _. sym (ap length (printed ∙ ap (λ (l : List ℕ). take at mid ++ l) none ∙ append-nil (take at mid)) ∙ size);
+          all = λ _ f. clash over e f;
           enough = λ _. refl;
         }
 
@@ -69,9 +79,12 @@ module _ {u : Text} {cut text out mid : List ℕ} {n at : ℕ} (r : ReadTo start
     tells-short full why = record {
       printed = so-far;
       long = r .long;
+      room = inside;
       over = told;
       within = r .within;
+      read = λ _. ap (λ (p : Part). p .said) (r .part) ∙ sym front;
       whole = λ e. clash false e refl;
+      all = λ e. clash false e refl;
       enough = λ h. let few = at-most in let long = r .long in ⊎-elim (λ w. let f = full w in absurd (omega arith)) (λ w. absurd (omega arith)) why;
     }
 
@@ -94,8 +107,11 @@ module _ {u : Text} {cut text out mid : List ℕ} {n at : ℕ} (r : ReadTo start
         record {
           printed = stored ∙ ap (λ (l : List ℕ). output text ++ l) (rest ∙ ap (λ (i : ℕ). drop i out) (sym (w .behind))) ∙ ap (λ (l : List ℕ). l ++ drop end out) (sym same);
           long = ap length (w .stored) ∙ length-sets mid at bytes ∙ r .long;
+          room = let long = r .long in omega (arith, w .behind, count);
           over = told;
           within = r .within;
+          read = λ f. clash true refl f;
           whole = λ _. behind;
+          all = λ _ _. let within = r .within in omega (arith, all);
           enough = λ _. refl;
         }

@@ -30,7 +30,7 @@ pub struct Ending {
     pub done: bool,
 }
 
-// An inner call: plays one event, and answers the rows that it sends, with zeros behind them.
+// An inner call: plays one event, and answers the rows that it sends, or would send but for a limit, with zeros behind them.
 pub fn sent_by(rig: Rig, tables: &mut Tables, list: &mut Rows, count: usize, e: Event) -> Outbox
     requires { ⌜ (wellShaped (stored rig (now tables) (now list) count) ≡ true) × ZeroPast count (now list) ⌝ }
     ensures { λ r. ⌜ r ≡ outboxAfter (attemptOn (before rig tables list count) e) (replicate sentLimit zeroRow) ⌝ }
