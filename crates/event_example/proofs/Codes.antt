@@ -1,21 +1,19 @@
 -- Each case gets the code listed for it, by calculation. Most cases have the same sets and tables: whether these are well shaped is calculated once.
-use Prim.Native.Nat.{ℕ, _-_}
+use Prim.Native.Nat.{ℕ}
 use Prim.Native.String.{String}
 use mathlib.Core.Path.{_≡_, refl}
 use mathlib.Core.Bool.{Bool, true, not, _&&_, cond}
 use mathlib.Core.List.{List, [], _∷_, _++_, map}
 use lib.Dec.{eqb, leb}
-use lib.ListN.{length, take, replicate}
+use lib.ListN.{length, take}
 use Rattle.basics.specs.Helpers.{all, any, first, withoutFirst}
 use Rattle.basics.proofs.Basics.{by-bool}
 use Rattle.rig.specs.declared.Event.{Event}
-use Rattle.rig.specs.declared.Event.the-variants.{Ask}
 use Rattle.rig.specs.Limits.{messageLimit, blankTable}
-use Rattle.rig.specs.Messages.{request}
 use Rattle.model.specs.Tables.{at, put, cell}
 use Rattle.model.specs.Sets.{member, meet, names}
 use Rattle.model.specs.Setup.{sizeListed, allName, meetsEarlier, allMeet, setupCode, keptSets, freshRig}
-use Rattle.model.specs.State.{Stored, freshTables, deskOf, withDesk, withAccepted}
+use Rattle.model.specs.State.{freshTables, deskOf, withDesk, withAccepted}
 use Rattle.model.specs.Priority.{comesBefore, headWith, head}
 use Rattle.model.specs.Ask.{requests, asked}
 use Rattle.model.specs.Leave.{handOn, handOns, left}
@@ -23,7 +21,7 @@ use Rattle.model.specs.Arbiter.{headOf, nextHeir, granted, grantedHead, clockRa
 use Rattle.model.specs.Site.{failedSet, yielded, allHeld, entered, taken, enteredOrYielded, takes, onReply, remembered, yieldedOrRemembered, onInquire, mustYield, yieldedIf, yieldedUpTo, onFail, onTransfer}
 use Rattle.model.specs.Deliver.{between, delivered}
 use Rattle.model.specs.Shape.{isNumber, isGiven, setShaped, modeShaped, siteBlank, siteShaped, holderShaped, arbiterShaped, placeShaped, rigShaped, entryShaped, ownShaped, heirShaped, queuedShaped, everywhere, numberShaped, plainShaped, releaseShaped, aboutShaped, messageShaped, messagesShaped, tablesShaped, wellShaped}
-use Rattle.model.specs.Event.{actor, sitesNamed, takenOff, attempt, attempted, numbersUpTo, numbersFit, limitCode, blankMessage, padded, acceptedState, judged, eventAt, settled, played, tested, event}
+use Rattle.model.specs.Event.{actor, sitesNamed, takenOff, attempt, attempted, numbersUpTo, numbersFit, limitCode, padded, acceptedState, judged, eventAt, settled, played, tested, event}
 use Rattle.model.specs.Run.{fresh}
 use Rattle.event_example.specs.States.{site, arbiter, entry, baseSets, baseHeld, baseHeir, baseQueued, baseMessages, Parts, asIs, rigWith, stateWith, base, siteIs, arbiterIs, acceptedIs, listIs, carries, many, full, sizeIs, setIs, heldIs, heirIs, inquiredIs, queuedIs, atLimits, alike}
 use Rattle.event_example.specs.Cases.{Case, misjudged, Partial, whole, wholeCases, partCases, spentCases, cases, RefusalsChangeNothing, ZerosPastTheCount}
