@@ -12,7 +12,7 @@ ghost use Prim.Native.Nat.{ℕ, _<_, _≤_};
 ghost use mathlib.Core.List.{List};
 ghost use Rattle.model.specs.Run.{StartsRun, insideCount};
 
-// Sites 1 and 2. The request set of each is site 1 alone: bit 0.
+// Sites 1 and 2. The request set of each is site 1 alone: bit 0. These sets pass; were they refused, nothing would be played.
 fn main() {
     let mut sets = [0; Rig::SITES];
     sets[0] = 1;
