@@ -3,3 +3,4 @@ pub mod Basics
 pub mod Lists
 pub mod Numbers
 pub mod Tests
+pub mod Walks

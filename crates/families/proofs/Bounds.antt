@@ -1,12 +1,10 @@
 -- Bounds of the numbers that the code computes.
-use Prim.Native.Nat.{ℕ, zero, suc, _+_, _*_, _%_, _^_, _≤_, _<_}
+use Prim.Native.Nat.{ℕ, _+_, _*_, _%_, _^_, _≤_, _<_}
 use mathlib.Core.Path.{_≡_}
-use mathlib.Core.Bool.{Bool, true}
+use mathlib.Core.Bool.{true}
 use native.Mathlib.Nat.{mul-le-mul, one-mul, mod-eq-of-lt}
 use native.Mathlib.Omega.{arith}
 use lib.Pow.{pow-lt}
-use Rattle.model.specs.Sets.{setOf}
-use Rattle.basics.proofs.Basics.{by-bool}
 use Rattle.families.specs.declared.Family.{Family}
 use Rattle.families.specs.declared.Family.the-variants.{Grid, Billiard, Plane}
 use Rattle.families.specs.Family.{computed, sizeOf}
@@ -20,14 +18,6 @@ bit-most m h = pow-lt h
 
 pub shifted : (m : ℕ) → m < billiardSize 9 → 1 * 2 ^ m % 2 ^ 64 ≡ 2 ^ m
 shifted m h = let l = bit-most m h in rw one-mul (mod-eq-of-lt (omega arith))
-
--- a set of sites 1 to n is below 2 ^ n
-pub set-below : (p : ℕ → Bool) (n : ℕ) → setOf p n < 2 ^ n
-unfolding setOf
-set-below p zero = omega arith
-set-below p (suc i) =
-    let l = set-below p i in
-    by-bool (p (suc i)) (λ t. rw t (omega arith)) (λ t. rw t (omega arith))
 
 -- every family that the code has sets for
 pub sites-most : (f : Family) → computed f ≡ true → sizeOf f ≤ billiardSize 9

@@ -3,4 +3,3 @@ pub mod Bounds
 pub mod Parameters
 pub mod Accepted
 pub mod Codes
-pub mod Members

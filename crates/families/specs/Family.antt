@@ -1,30 +1,29 @@
 -- Document 01, "Request set families": what a call that generates a family answers, and the sets that it leaves.
-use Prim.Native.Nat.{ℕ, zero, suc, _+_}
-use mathlib.Core.Bool.{Bool, not, _&&_, _||_, cond}
-use mathlib.Core.List.{List, [], _∷_, _++_}
-use lib.Dec.{eqb, leb}
+use Prim.Native.Nat.{ℕ}
+use mathlib.Core.Bool.{Bool, not, cond}
+use mathlib.Core.List.{List}
+use lib.Dec.{eqb}
 use lib.ListN.{length}
 use Rattle.rig.specs.Limits.{siteLimit}
-use Rattle.basics.specs.Helpers.{any}
-use Rattle.model.specs.Sets.{setOf}
+use Rattle.family_sets.specs.Rule.{named, setBy, setsBy}
 use Rattle.families.specs.declared.Family.{Family}
 use Rattle.families.specs.declared.Family.the-variants.{Grid, Billiard, Plane}
 use Rattle.families.specs.declared.Made.{Made}
-use Rattle.family_grid.specs.Grid.{gridSize, gridWidth, gridEntry}
+use Rattle.family_grid.specs.Grid.{sideListed, gridSize, gridWidth, gridEntry}
 use Rattle.family_billiard.specs.Billiard.{qListed, qComputed, billiardSize, billiardEntry}
-use Rattle.family_plane.specs.Plane.{planeSize, planeEntry}
+use Rattle.family_plane.specs.Plane.{pListed, planeSize, planeWidth, planeEntry}
 
 -- "side s from 1 to 5", "q of 3, 5 or 7", "p of 2, 3 or 5"
 unfoldable pub listed : Family → Bool
-listed (Grid s) = leb 1 s && leb s 5
+listed (Grid s) = sideListed s
 listed (Billiard q) = qListed q
-listed (Plane p) = eqb p 2 || (eqb p 3 || eqb p 5)
+listed (Plane p) = pListed p
 
 -- what the code has sets of: the listed ones, and the billiard of q = 9
 unfoldable pub computed : Family → Bool
-computed (Grid s) = listed (Grid s)
+computed (Grid s) = sideListed s
 computed (Billiard q) = qComputed q
-computed (Plane p) = listed (Plane p)
+computed (Plane p) = pListed p
 
 -- the number of sites, N
 unfoldable pub sizeOf : Family → ℕ
@@ -36,29 +35,25 @@ sizeOf (Plane p) = planeSize p
 unfoldable pub widthOf : Family → ℕ
 widthOf (Grid s) = gridWidth s
 widthOf (Billiard q) = q
-widthOf (Plane p) = p + 1
+widthOf (Plane p) = planeWidth p
 
 -- the k-th site named for the set of site n, k from 1
 unfoldable pub entry : Family → ℕ → ℕ → ℕ
-entry (Grid s) n k = gridEntry s n k
-entry (Billiard q) n k = billiardEntry q n k
-entry (Plane p) n k = planeEntry p n k
+entry (Grid s) = gridEntry s
+entry (Billiard q) = billiardEntry q
+entry (Plane p) = planeEntry p
 
 -- site m is in the set of site n
-unfoldable pub hasSite : Family → ℕ → ℕ → Bool
-hasSite f n m = any (λ k. eqb m (entry f n k)) (widthOf f)
+abbrev pub hasSite : Family → ℕ → ℕ → Bool
+hasSite f = named (entry f) (widthOf f)
 
 -- the set of site n; "Entries past N become empty."
-unfoldable pub setAt : Family → ℕ → ℕ
-setAt f n = cond (leb 1 n && leb n (sizeOf f)) (setOf (hasSite f n) (sizeOf f)) 0
+abbrev pub setAt : Family → ℕ → ℕ
+setAt f = setBy (entry f) (widthOf f) (sizeOf f)
 
--- the sets of sites 1 to n
-unfoldable pub setsUpTo : Family → ℕ → List ℕ
-setsUpTo f zero = []
-setsUpTo f (suc i) = setsUpTo f i ++ (setAt f (suc i) ∷ [])
-
+-- the sets of all sites
 abbrev pub setsOf : Family → List ℕ
-setsOf f = setsUpTo f siteLimit
+setsOf f = setsBy (entry f) (widthOf f) (sizeOf f)
 
 -- "Families. 13 as above" (the buffer of sets is not 31 entries long); "12 if the parameter is not listed."
 unfoldable pub familyCode : Family → ℕ → ℕ

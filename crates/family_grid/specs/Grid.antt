@@ -1,7 +1,11 @@
 -- Document 01, "Request set families": "Grid (000): side s from 1 to 5, N = s × s, sites row by row; a site's set is its row and its column."
 use Prim.Native.Nat.{ℕ, _+_, _-_, _*_, _/_, _%_}
-use mathlib.Core.Bool.{cond}
+use mathlib.Core.Bool.{Bool, _&&_, cond}
 use lib.Dec.{leb}
+
+-- "side s from 1 to 5"
+abbrev pub sideListed : ℕ → Bool
+sideListed s = leb 1 s && leb s 5
 
 abbrev pub gridSize : ℕ → ℕ
 gridSize s = s * s

@@ -1,11 +1,19 @@
 -- Document 01, "Request set families": "Plane (002): p of 2, 3 or 5, N = p(p + 1) + 1; site n takes row n of the matrices M1, M2 and so on, laid
 -- one under the other." The matrices are those of source 002, section 3.
 use Prim.Native.Nat.{ℕ, _+_, _-_, _*_, _/_, _%_}
-use mathlib.Core.Bool.{cond}
+use mathlib.Core.Bool.{Bool, _||_, cond}
 use lib.Dec.{eqb, leb}
+
+-- "p of 2, 3 or 5"
+abbrev pub pListed : ℕ → Bool
+pListed p = eqb p 2 || (eqb p 3 || eqb p 5)
 
 abbrev pub planeSize : ℕ → ℕ
 planeSize p = p * (p + 1) + 1
+
+-- a row of a matrix has p + 1 entries
+abbrev pub planeWidth : ℕ → ℕ
+planeWidth p = p + 1
 
 -- "m^1_{i,j} = 1 if j = 1, (i - 1)p + j if otherwise"
 unfoldable pub firstMatrix : ℕ → ℕ → ℕ → ℕ

@@ -9,7 +9,7 @@ use lib.Dec.{eqb}
 use lib.ListN.{length, getD, replicate, getD-replicate}
 use borrow.Author.Tests.{eqb-true, eqb-false, eq-eqb, ne-eqb, not-true}
 use Rattle.basics.specs.Helpers.{count, tally}
-use Rattle.basics.proofs.Basics.{by-bool, clash, and-split}
+use Rattle.basics.proofs.Basics.{by-bool, clash, and-split, any-of, any-none, count-any}
 use Rattle.basics.proofs.Lists.{All}
 use Rattle.rig.specs.declared.Message.{Message}
 use Rattle.rig.specs.declared.Event.{Event}
@@ -126,17 +126,10 @@ back-same j (m ∷ ms) =
 -- How many of the sites 1 to n pass
 
 none-pass : (p : ℕ → Bool) (n : ℕ) → count p n ≡ 0 → (k : ℕ) → 1 ≤ k → k ≤ n → p k ≡ false
-unfolding count
-none-pass p zero e k a b = absurd (omega arith)
-none-pass p (suc n) e k a b =
-    by-bool (p (suc n))
-    (λ t. let x = rw t at e in absurd (omega arith))
-    (λ t. by-bool (eqb k (suc n)) (λ q. rw (eqb-true k (suc n) q) t) (λ q. let ne = eqb-false k (suc n) q in none-pass p n (rw t at e) k a (omega arith)))
+none-pass p n e k a b = by-bool (p k) (λ t. clash (eqb (count p n) 0) (eq-eqb (count p n) 0 e) (count-any p n ∙ ap not (any-of p n k a b t))) (λ t. t)
 
 none-passes : (p : ℕ → Bool) (n : ℕ) → ((k : ℕ) → 1 ≤ k → k ≤ n → p k ≡ false) → count p n ≡ 0
-unfolding count
-none-passes p zero h = refl
-none-passes p (suc n) h = rw (h (suc n) (omega arith) (omega arith)) (none-passes p n (λ k a b. h k a (omega arith)))
+none-passes p n h = eqb-true (count p n) 0 (count-any p n ∙ ap not (any-none p n h))
 
 one-passes : (p : ℕ → Bool) (n : ℕ) → ((k m : ℕ) → p k ≡ true → p m ≡ true → k ≡ m) → count p n ≤ 1
 unfolding count

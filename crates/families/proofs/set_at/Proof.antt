@@ -1,12 +1,12 @@
 -- `families::set_at` meets its contract.
 use borrow.Author.Tests.{le-leb, lt-leb}
 use borrow.Author.Needs.{needs}
-use Rattle.families.specs.Family.{setAt}
+use Rattle.family_sets.specs.Rule.{setBy}
 use Rattle.families.proofs.set_at.Statement.{statement}
 use Rattle.families.proofs.set_at.Tie as tie
 
 returns : tie.Need-returns
-unfolding setAt
+unfolding setBy
 returns c = rw (lt-leb _ _ (c .if1 .taken))
 
 size-of-requires : tie.Need-size-of-requires
@@ -19,7 +19,7 @@ returns-2 : tie.Need-returns-2
 returns-2 c = search needs
 
 returns-3 : tie.Need-returns-3
-unfolding setAt
+unfolding setBy
 returns-3 c = rw (le-leb _ _ (c .before .before .if1 .left), lt-leb _ _ (rw (c .before .size-of .ensures) at (c .if2 .left)))
 
 pub set-at-spec : {M : Type 1} → statement M

@@ -7,8 +7,10 @@ use native.Mathlib.Omega.{arith}
 use borrow.Author.Tests.{le-leb}
 use borrow.Author.Needs.{needs}
 use Rattle.model.specs.Sets.{setOf}
-use Rattle.families.specs.Family.{hasSite, setAt}
-use Rattle.families.proofs.Bounds.{sites-most, set-below}
+use Rattle.family_sets.specs.Rule.{setBy}
+use Rattle.family_sets.proofs.Bounds.{set-below}
+use Rattle.families.specs.Family.{hasSite}
+use Rattle.families.proofs.Bounds.{sites-most}
 use Rattle.families.proofs.site_set.Statement.{statement}
 use Rattle.families.proofs.site_set.Tie as tie
 
@@ -47,7 +49,7 @@ unfolding setOf
 loop-again c = (omega arith, c .with-site .ensures ∙ rw (c .before .has-site .ensures, c .before .before .before .loop .inv .1, add-one))
 
 returns : tie.Need-returns Inv-loop μ-loop
-unfolding setAt
+unfolding setBy
 returns c =
     let p = c .before .before .before .pre in
     let e = le-antisymm (c .before .loop .inv .0) (c .loop-test .left) ∙ c .before .before .size-of .ensures in

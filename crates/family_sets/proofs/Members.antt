@@ -9,7 +9,7 @@ use lib.Pow.{pow-pos, pow-add, high}
 use borrow.Author.Tests.{eqb-true, eqb-false}
 use Rattle.model.specs.Sets.{member, setOf}
 use Rattle.basics.proofs.Basics.{by-bool}
-use Rattle.families.proofs.Bounds.{set-below}
+use Rattle.family_sets.proofs.Bounds.{set-below}
 
 abbrev bit : Bool → ℕ
 bit b = cond b 1 0

@@ -1,0 +1,3 @@
+-- Laws that `families` cites.
+pub mod Accepted
+pub mod Parameters

@@ -1,0 +1,3 @@
+-- Laws of sets that are made of a test.
+pub mod Bounds
+pub mod Members

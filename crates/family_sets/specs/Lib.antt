@@ -1,0 +1,2 @@
+-- The sets that a family's rule makes.
+pub mod Rule
