@@ -13,7 +13,7 @@ ghost use mathlib.Core.Path.{_≡_};
 ghost use Rattle.player_printing.specs.Printing.{stepLine, stopLine};
 ghost use Rattle.player_text.specs.Player.{onLine, onEnd};
 ghost use Rattle.player_text.specs.Calls.{before, PlayerFits};
-ghost use Rattle.player_playing.specs.State.{known, cutLine, PlayingFits};
+ghost use Rattle.player_playing.specs.State.{known, cutLine};
 ghost use Rattle.client_pages.specs.Spaced.{spaced, OnPage};
 
 // The player after a line, and the page with what it printed.
@@ -54,9 +54,8 @@ pub fn line_page(p: Player, tables: &mut Tables, list: &mut Rows, bytes: &[u8]) 
     }
 }
 
-// An inner call: the end of the input.
+// The end of the input.
 pub fn end_page(s: Playing) -> Page
-    requires { ⌜ PlayingFits s ⌝ }
     ensures { λ r. ⌜ r ≡ spaced (onEnd (known s) (cutLine s)) ⌝ }
 {
     let mut page = [b' '; PAGE_LENGTH];

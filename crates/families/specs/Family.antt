@@ -1,11 +1,11 @@
--- Document 01, "Request set families": what a call that generates a family answers, and the sets that it leaves.
+-- Document 01, "Request set families" and "What is turned down, by operation": what a call that generates a family answers, and the sets that it leaves.
 use Prim.Native.Nat.{ℕ}
 use mathlib.Core.Bool.{Bool, not, cond}
 use mathlib.Core.List.{List}
 use lib.Dec.{eqb}
 use lib.ListN.{length}
 use Rattle.rig.specs.Limits.{siteLimit}
-use Rattle.family_sets.specs.Rule.{named, setBy, setsBy}
+use Rattle.family_sets.specs.Rule.{isEntry, setBy, setsBy}
 use Rattle.families.specs.declared.Family.{Family}
 use Rattle.families.specs.declared.Family.the-variants.{Grid, Billiard, Plane}
 use Rattle.families.specs.declared.Made.{Made}
@@ -43,15 +43,15 @@ entry (Grid s) = gridEntry s
 entry (Billiard q) = billiardEntry q
 entry (Plane p) = planeEntry p
 
--- site m is in the set of site n
+-- the rule names site m for the set of site n
 abbrev pub hasSite : Family → ℕ → ℕ → Bool
-hasSite f = named (entry f) (widthOf f)
+hasSite f = isEntry (entry f) (widthOf f)
 
 -- the set of site n; "Entries past N become empty."
 abbrev pub setAt : Family → ℕ → ℕ
 setAt f = setBy (entry f) (widthOf f) (sizeOf f)
 
--- the sets of all sites
+-- the buffer of sets
 abbrev pub setsOf : Family → List ℕ
 setsOf f = setsBy (entry f) (widthOf f) (sizeOf f)
 

@@ -1,5 +1,5 @@
 -- Document 01, "Request set families": "Billiard (000): q of 3, 5 or 7, N = (q² − 1)/2; the procedure of its Figure 6, with mod giving 1 to q."
--- The lines in quotes below are those of Figure 6 of source 000.
+-- But for the listed q, the lines in quotes below are those of Figure 6 of source 000.
 use Prim.Native.Nat.{ℕ, zero, suc, pred, _+_, _-_, _*_, _/_, _%_, _≤_, _<_}
 use mathlib.Core.Path.{_≡_}
 use mathlib.Core.Bool.{Bool, true, _&&_, _||_, cond}

@@ -6,14 +6,10 @@ use Rattle.basics.specs.Helpers.{all, any}
 use Rattle.model.specs.Tables.{at}
 use Rattle.model.specs.Sets.{member, setOf, meet, names}
 use Rattle.model.specs.Setup.{sizeListed, allName, meetsEarlier, allMeet, setupCode}
-use Rattle.family_sets.specs.Rule.{named, setBy, setsUpTo, setsBy}
+use Rattle.family_sets.specs.Rule.{isEntry, setBy, setsUpTo, codeBy}
 use Rattle.family_grid.specs.Grid.{sideListed, gridSize, gridWidth, gridEntry}
 use Rattle.family_grid.proofs.Parameters.{by-side}
 
--- what setup answers to the sets of side s
-abbrev answer : ℕ → ℕ
-answer s = setupCode (gridSize s) (setsBy (gridEntry s) (gridWidth s) (gridSize s))
-
-pub accepted : (s : ℕ) → sideListed s ≡ true → setupCode (gridSize s) (setsBy (gridEntry s) (gridWidth s) (gridSize s)) ≡ 0
-unfolding at all any member setOf meet names sizeListed allName meetsEarlier allMeet setupCode named setBy setsUpTo gridEntry
-accepted s h = by-side (λ s. answer s ≡ 0) refl refl refl refl refl s h
+pub accepted : (s : ℕ) → sideListed s ≡ true → codeBy (gridEntry s) (gridWidth s) (gridSize s) ≡ 0
+unfolding at all any member setOf meet names sizeListed allName meetsEarlier allMeet setupCode isEntry setBy setsUpTo gridEntry
+accepted s h = by-side (λ s. codeBy (gridEntry s) (gridWidth s) (gridSize s) ≡ 0) refl refl refl refl refl s h

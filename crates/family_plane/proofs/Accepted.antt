@@ -6,14 +6,10 @@ use Rattle.basics.specs.Helpers.{all, any}
 use Rattle.model.specs.Tables.{at}
 use Rattle.model.specs.Sets.{member, setOf, meet, names}
 use Rattle.model.specs.Setup.{sizeListed, allName, meetsEarlier, allMeet, setupCode}
-use Rattle.family_sets.specs.Rule.{named, setBy, setsUpTo, setsBy}
+use Rattle.family_sets.specs.Rule.{isEntry, setBy, setsUpTo, codeBy}
 use Rattle.family_plane.specs.Plane.{pListed, planeSize, planeWidth, firstMatrix, otherMatrix, planeEntry}
 use Rattle.family_plane.proofs.Parameters.{by-p}
 
--- what setup answers to the sets of p
-abbrev answer : ℕ → ℕ
-answer p = setupCode (planeSize p) (setsBy (planeEntry p) (planeWidth p) (planeSize p))
-
-pub accepted : (p : ℕ) → pListed p ≡ true → setupCode (planeSize p) (setsBy (planeEntry p) (planeWidth p) (planeSize p)) ≡ 0
-unfolding at all any member setOf meet names sizeListed allName meetsEarlier allMeet setupCode named setBy setsUpTo firstMatrix otherMatrix planeEntry
-accepted p h = by-p (λ p. answer p ≡ 0) refl refl refl p h
+pub accepted : (p : ℕ) → pListed p ≡ true → codeBy (planeEntry p) (planeWidth p) (planeSize p) ≡ 0
+unfolding at all any member setOf meet names sizeListed allName meetsEarlier allMeet setupCode isEntry setBy setsUpTo firstMatrix otherMatrix planeEntry
+accepted p h = by-p (λ p. codeBy (planeEntry p) (planeWidth p) (planeSize p) ≡ 0) refl refl refl p h

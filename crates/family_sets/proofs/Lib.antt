@@ -1,3 +1,2 @@
 -- Laws of sets that are made of a test.
 pub mod Bounds
-pub mod Members

@@ -7,20 +7,24 @@ use lib.Dec.{eqb, leb}
 use Rattle.rig.specs.Limits.{siteLimit}
 use Rattle.basics.specs.Helpers.{any}
 use Rattle.model.specs.Sets.{setOf}
+use Rattle.model.specs.Setup.{setupCode}
 
--- site m is in the set of site n
-unfoldable pub named : (ℕ → ℕ → ℕ) → ℕ → ℕ → ℕ → Bool
-named entry width n m = any (λ k. eqb m (entry n k)) width
+-- the rule names site m for the set of site n
+unfoldable pub isEntry : (ℕ → ℕ → ℕ) → ℕ → ℕ → ℕ → Bool
+isEntry entry width n m = any (λ k. eqb m (entry n k)) width
 
--- the set of site n; "Entries past N become empty."
+-- the set of site n; "What is turned down, by operation": "Entries past N become empty."
 unfoldable pub setBy : (ℕ → ℕ → ℕ) → ℕ → ℕ → ℕ → ℕ
-setBy entry width size n = cond (leb 1 n && leb n size) (setOf (named entry width n) size) 0
+setBy entry width size n = cond (leb 1 n && leb n size) (setOf (isEntry entry width n) size) 0
 
--- the sets of sites 1 to n
+-- the first n entries of the buffer of sets, and all of them
 unfoldable pub setsUpTo : (ℕ → ℕ → ℕ) → ℕ → ℕ → ℕ → List ℕ
 setsUpTo entry width size zero = []
 setsUpTo entry width size (suc i) = setsUpTo entry width size i ++ (setBy entry width size (suc i) ∷ [])
 
--- the buffer of sets
 abbrev pub setsBy : (ℕ → ℕ → ℕ) → ℕ → ℕ → List ℕ
 setsBy entry width size = setsUpTo entry width size siteLimit
+
+-- the code that setup gives them
+abbrev pub codeBy : (ℕ → ℕ → ℕ) → ℕ → ℕ → ℕ
+codeBy entry width size = setupCode size (setsBy entry width size)

@@ -9,8 +9,6 @@ use player_playing::part;
 use player_printing::PAGE_LENGTH;
 ghost use Prim.Native.Nat.{_≤_};
 ghost use lib.ListN.{length};
-ghost use Rattle.player_printing.specs.Printing.{pageLength};
-ghost use Rattle.player_playing.specs.State.{PlayingFits};
 
 // How many bytes are read at once, and how many are written at once.
 const INPUT: usize = 8_192;

@@ -8,10 +8,11 @@ use player_text::Stage;
 use rig::Message;
 use rig::Rig;
 use rig::Tables;
+ghost use Prim.Native.Nat.{min};
 ghost use mathlib.Core.Path.{_≡_};
 ghost use Rattle.player_text.specs.Player.{onEnd};
 ghost use Rattle.player_printing.specs.Printing.{Printed};
-ghost use Rattle.player_playing.specs.State.{known, cutLine, PlayingFits, firstPlaying, overAt, LeavesPlayed, Continues};
+ghost use Rattle.player_playing.specs.State.{lineRoom, known, cutLine, PlayingFits, firstPlaying, overAt, LeavesPlayed, Continues};
 
 // The player with all that it needs between two parts of a text: what it knows, the rig's tables, its list of messages, and the bytes
 // of the line that the end of a part cut. Nobody outside makes or changes one.
@@ -110,13 +111,19 @@ pub fn is_over(s: Playing) -> bool
     }
 }
 
-// The end of the input; answers how many bytes of the page are to be written out. The state is as `begin` or a part left it.
+// As many bytes as are held, and no more than there is room for. Every state that `begin` or `part` leaves holds fewer.
+fn at_most_room(held: usize) -> usize
+    ensures { λ r. ⌜ r ≡ min held lineRoom ⌝ }
+{
+    if held < LINE_ROOM { held } else { LINE_ROOM }
+}
+
+// The end of the input; answers how many bytes of the page are to be written out.
 pub fn finish(s: Playing, page: &mut Page) -> usize
-    requires { ⌜ PlayingFits s ⌝ }
     ensures { λ r. ⌜ Printed (onEnd (known s) (cutLine s)) (now (page .entry)) (now (page .exit)) r ⌝ }
 {
     let player = s.player;
     let line = s.line;
-    let held = s.held;
+    let held = at_most_room(s.held);
     player_lines::finish(player, page, &line[..held])
 }

@@ -16,7 +16,7 @@ use base.Logic.{SProp, ent, sep, emp, exE, fst∗, snd∗, id⊢, via}
 use base.Fml.{Lft, Share, GName, ftrue, fsep, fat, flft, flent, fres}
 use prog.Memory.{Memory}
 use prog.Routine.{Routine}
-use prog.Wp.{Heap, Env, Calls, Loops, WpFn, Tables}
+use prog.Wp.{Heap, Calls, Loops, WpFn, Tables}
 use ghost.Atoms.{Atoms, sem}
 use contract.Monad.{Fun, fact}
 use contract.Running.{givenOf, tables, tablesOf}

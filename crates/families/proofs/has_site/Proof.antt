@@ -10,7 +10,7 @@ use borrow.Author.Tests.{eq-eqb, ne-eqb}
 use borrow.Author.Needs.{needs}
 use Rattle.basics.proofs.Basics.{any-of}
 use Rattle.basics.specs.Helpers.{any}
-use Rattle.family_sets.specs.Rule.{named}
+use Rattle.family_sets.specs.Rule.{isEntry}
 use Rattle.families.specs.Family.{entry}
 use Rattle.families.proofs.has_site.Statement.{statement}
 use Rattle.families.proofs.has_site.Tie as tie
@@ -37,7 +37,7 @@ entry-requires c κs =
     (p .0, p .1, p .2, omega arith, omega (arith, c .before .before .width-of .ensures))
 
 returns : tie.Need-returns Inv-loop μ-loop
-unfolding named
+unfolding isEntry
 returns c =
     let w = c .before .before .before in
     let s = w .before .before .args in
@@ -56,7 +56,7 @@ loop-again c =
     (omega arith, rw (add-one, w .loop .inv .1, ← add-one) (ne-eqb _ _ (λ e. c .if1 .left (e ∙ sym (c .before .entry .ensures)))))
 
 returns-2 : tie.Need-returns-2 Inv-loop μ-loop
-unfolding named
+unfolding isEntry
 returns-2 c = rw (← le-antisymm (c .before .loop .inv .0) (c .loop-test .left) ∙ c .before .before .width-of .ensures) (sym (c .before .loop .inv .1))
 
 pub has-site-spec : {M : Type 1} → statement M

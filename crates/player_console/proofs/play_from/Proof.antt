@@ -28,88 +28,67 @@ Inv-loop fd room input₀ output₀ page₀ most r₀ turns₀ input output page
 abbrev μ-loop : tie.MeasureT-loop
 μ-loop fd room input₀ output₀ page₀ most r₀ turns₀ input output page r turns = turns
 
--- src/lib.rt:48:9
 read-room-requires : tie.Need-read-room-requires Inv-loop2 μ-loop2 Inv-loop μ-loop
 read-room-requires c κs = search needs
 
--- src/lib.rt:49:9
 begin-requires : tie.Need-begin-requires Inv-loop2 μ-loop2 Inv-loop μ-loop
 begin-requires c κs = search needs
 
--- src/lib.rt:56:5
 loop-holds : tie.Need-loop-holds Inv-loop2 μ-loop2 Inv-loop μ-loop
 loop-holds c = (c .begin .ensures .1, length-replicate {A = ℕ} 8_192 0, length-replicate {A = ℕ} 32_768 0)
 
--- src/lib.rt:57:33
 slice-aggregate-read-some : tie.Need-slice-aggregate-read-some Inv-loop2 μ-loop2 Inv-loop μ-loop
 slice-aggregate-read-some c = sym (c .before .before .loop .inv .1)
 
--- src/lib.rt:57:13
 read-some-requires : tie.Need-read-some-requires Inv-loop2 μ-loop2 Inv-loop μ-loop
 read-some-requires c κs = omega (arith, c .before .before .before .before .read-room .ensures, c .before .before .loop .inv .1)
 
--- src/lib.rt:60:17
 finish-requires : tie.Need-finish-requires Inv-loop2 μ-loop2 Inv-loop μ-loop
-finish-requires c κs = c .before .before .before .before .before .before .before .loop .inv .0
+finish-requires c κs = search needs
 
--- src/lib.rt:61:42
 array-share-prefix-page : tie.Need-array-share-prefix-page Inv-loop2 μ-loop2 Inv-loop μ-loop
 array-share-prefix-page c = printed-part (c .finish .ensures) .0
 
--- src/lib.rt:61:42
 slice-aggregate-write-all : tie.Need-slice-aggregate-write-all Inv-loop2 μ-loop2 Inv-loop μ-loop
 slice-aggregate-write-all c = printed-part (c .before .finish .ensures) .1
 
--- src/lib.rt:61:13
 write-all-requires : tie.Need-write-all-requires Inv-loop2 μ-loop2 Inv-loop μ-loop
 write-all-requires c κs = search needs
 
--- src/lib.rt:62:13
 returns : tie.Need-returns Inv-loop2 μ-loop2 Inv-loop μ-loop
 returns c = search needs
 
--- src/lib.rt:65:9
 loop2-holds : tie.Need-loop2-holds Inv-loop2 μ-loop2 Inv-loop μ-loop
 loop2-holds c = let i = c .before .before .before .before .before .loop .inv in (i .0, omega arith, i .2, omega (arith, c .before .before .read-some .ensures, c .before .before .before .before .before .before .before .read-room .ensures), c .before .before .read-some .kept .1 .0 ∙ i .1)
 
--- src/lib.rt:67:25
 sub-part : tie.Need-sub-part Inv-loop2 μ-loop2 Inv-loop μ-loop
 sub-part c = c .before .before .loop2 .inv .1
 
--- src/lib.rt:67:25
 part-part-start : tie.Need-part-part-start Inv-loop2 μ-loop2 Inv-loop μ-loop
 part-part-start c = search needs
 
--- src/lib.rt:67:25
 part-part-end : tie.Need-part-part-end Inv-loop2 μ-loop2 Inv-loop μ-loop
 part-part-end c = search needs
 
--- src/lib.rt:67:44
 slice-aggregate-part : tie.Need-slice-aggregate-part Inv-loop2 μ-loop2 Inv-loop μ-loop
 slice-aggregate-part c = sym (c .before .before .before .before .before .loop2 .inv .2)
 
--- src/lib.rt:67:13
 part-requires : tie.Need-part-requires Inv-loop2 μ-loop2 Inv-loop μ-loop
 part-requires c κs = c .before .before .before .before .before .loop2 .inv .0
 
--- src/lib.rt:68:42
 array-share-prefix-output : tie.Need-array-share-prefix-output Inv-loop2 μ-loop2 Inv-loop μ-loop
 array-share-prefix-output c = c .before .part .ensures .0 .0 .room
 
--- src/lib.rt:68:42
 slice-aggregate-write-all-2 :
     tie.Need-slice-aggregate-write-all-2 Inv-loop2 μ-loop2 Inv-loop μ-loop
 slice-aggregate-write-all-2 c = sym (length-take-le _ _ (c .before .before .part .ensures .0 .0 .room))
 
--- src/lib.rt:68:13
 write-all-requires-2 : tie.Need-write-all-requires-2 Inv-loop2 μ-loop2 Inv-loop μ-loop
 write-all-requires-2 c κs = search needs
 
--- src/lib.rt:69:20
 add-from : tie.Need-add-from Inv-loop2 μ-loop2 Inv-loop μ-loop
 add-from c = let i = c .before .before .before .before .before .before .before .before .before .before .loop2 .inv in record { fits = omega (arith, c .before .before .before .before .part .ensures .0 .0 .within, rest-length (c .before .before .before .before .before .before .before .before .before .before .before .before .before .read-some .last .1 .0) _ _ (i .1) (i .3) (i .4), i .1, i .3) }
 
--- src/lib.rt:65:9
 loop2-less : tie.Need-loop2-less Inv-loop2 μ-loop2 Inv-loop μ-loop
 loop2-less c =
     let i = c .before .before .before .before .before .before .before .before .before .before .loop2 .inv in
@@ -117,34 +96,27 @@ loop2-less c =
     let some = some-read (e .0) (omega (arith, rest-length (c .before .before .before .before .before .before .before .before .before .before .before .before .before .read-some .last .1 .0) _ _ (i .1) (i .3) (i .4), c .before .before .before .before .before .before .before .before .before .loop2-test .taken)) (omega (arith, i .2)) (e .2) in
     omega (arith, some, c .before .before .before .before .before .before .before .before .before .loop2-test .taken)
 
--- src/lib.rt:65:9
 loop2-again : tie.Need-loop2-again Inv-loop2 μ-loop2 Inv-loop μ-loop
 loop2-again c =
     let i = c .before .before .before .before .before .before .before .before .before .before .loop2 .inv in
     let e = c .before .before .before .before .part .ensures .0 in
     (e .1, omega (arith, e .0 .within, rest-length (c .before .before .before .before .before .before .before .before .before .before .before .before .before .read-some .last .1 .0) _ _ (i .1) (i .3) (i .4), i .1), e .0 .long ∙ i .2, i .3, i .4)
 
--- src/lib.rt:72:12
 is-over-requires : tie.Need-is-over-requires Inv-loop2 μ-loop2 Inv-loop μ-loop
 is-over-requires c κs = search needs
 
--- src/lib.rt:73:13
 returns-2 : tie.Need-returns-2 Inv-loop2 μ-loop2 Inv-loop μ-loop
 returns-2 c = search needs
 
--- src/lib.rt:75:17
 sub-turns : tie.Need-sub-turns Inv-loop2 μ-loop2 Inv-loop μ-loop
 sub-turns c = search needs
 
--- src/lib.rt:56:5
 loop-less : tie.Need-loop-less Inv-loop2 μ-loop2 Inv-loop μ-loop
 loop-less c = omega arith
 
--- src/lib.rt:56:5
 loop-again : tie.Need-loop-again Inv-loop2 μ-loop2 Inv-loop μ-loop
 loop-again c = let i = c .before .before .before .before .loop2 .inv in (i .0, i .4, i .2)
 
--- src/lib.rt:44:1
 returns-3 : tie.Need-returns-3 Inv-loop2 μ-loop2 Inv-loop μ-loop
 returns-3 c = search needs
 
