@@ -209,7 +209,7 @@ fn shortened(subject: &Subject, text: &[u8], piece: usize) -> Result<Vec<u8>, St
 }
 
 /// The first line (from 1) in which two outputs differ, and both lines.
-fn first_difference<'a>(a: &'a [u8], b: &'a [u8]) -> (usize, &'a [u8], &'a [u8]) {
+pub(crate) fn first_difference<'a>(a: &'a [u8], b: &'a [u8]) -> (usize, &'a [u8], &'a [u8]) {
     let mut a_lines = a.split_inclusive(|&byte| byte == b'\n');
     let mut b_lines = b.split_inclusive(|&byte| byte == b'\n');
     let mut number = 1;
@@ -235,7 +235,7 @@ fn print_difference(subject: &Subject, text: &[u8], piece: usize) -> Result<(), 
 }
 
 /// Bytes made visible, at most some hundred of them.
-fn shown(bytes: &[u8]) -> String {
+pub(crate) fn shown(bytes: &[u8]) -> String {
     let most = 600;
     let cut = if bytes.len() > most { "…" } else { "" };
     format!("\"{}{cut}\"", bytes[..bytes.len().min(most)].escape_ascii())

@@ -1,12 +1,16 @@
-//! A second opinion on document 01 ("The show key").
+//! A second opinion on document 01 ("The show key") and request 2.1.
 //!
 //! * [`model`] is the paper itself, written from the paper alone: setup, the
 //!   families of request sets, one event, and the player of texts.
 //! * [`schedule`], [`rigs`], [`texts`] and [`damage`] make texts to play.
 //! * [`compare`] plays each text with the model and with another player and
 //!   compares every byte; [`measure`] times both.
-//! * [`faults`] plants known faults, to see that the comparer finds them.
+//! * [`plan`] is the program that prints a family's sets, [`calls`] are words
+//!   to call it with, and [`plan_compare`] compares another one.
+//! * [`faults`] and [`plan_faults`] plant known faults, to see that the
+//!   comparers find them.
 
+pub mod calls;
 pub mod census;
 pub mod compare;
 pub mod damage;
@@ -14,6 +18,9 @@ pub mod faults;
 pub mod measure;
 pub mod model;
 pub mod options;
+pub mod plan;
+pub mod plan_compare;
+pub mod plan_faults;
 pub mod random;
 pub mod rigs;
 pub mod schedule;

@@ -1,4 +1,4 @@
-//! The commands: compare, play, generate and measure.
+//! The commands: compare, play, plan, generate and measure.
 
 use std::fs;
 use std::io::{self, BufWriter, Read, Write};
@@ -8,8 +8,9 @@ use std::time::{Duration, SystemTime};
 
 use outside::compare::{compare, Plan};
 use outside::measure::measure;
-use outside::model::{play, Family, Site};
+use outside::model::{play, Family};
 use outside::options::Options;
+use outside::plan_compare::compare_calls;
 use outside::random::Random;
 use outside::rigs::{self, Lists};
 use outside::schedule::{write_text, Schedule};
@@ -19,7 +20,9 @@ const USAGE: &str = "\
 outside compare PLAYER_BINARY [--seed S] [--texts N] [--seconds T] [--jobs J]
                               [--no-spent] [--timeout T] [--shrink-seconds T] [--folder F]
 outside play FILE|-
-outside generate --family grid:3|billiard:7|plane:5|full:31 --events K [--seed S] [--swell]
+outside plan PROGRAM [--script] [--timeout T]
+outside generate --family grid:3|billiard:7|plane:5|levels:2,3,5|full:31
+                 --events K [--seed S] [--swell]
 outside measure PLAYER_BINARY [--events K] [--rounds R] [--seed S] ";
 
 fn main() -> ExitCode {
@@ -29,6 +32,7 @@ fn main() -> ExitCode {
     let outcome = match command.as_str() {
         "compare" => compare_command(options),
         "play" => play_command(options),
+        "plan" => plan_command(options),
         "generate" => generate_command(options),
         "measure" => measure_command(options),
         _ => Err(format!("usage:\n{USAGE}")),
@@ -87,6 +91,14 @@ fn play_command(mut options: Options) -> Result<bool, String> {
     written(io::stdout().write_all(&play(&text)))
 }
 
+fn plan_command(mut options: Options) -> Result<bool, String> {
+    let script = options.flag("--script");
+    let patience = seconds(options.value("--timeout")?.unwrap_or(60));
+    let binary = options.word("the plan program's file")?;
+    options.finish()?;
+    compare_calls(&Subject::new(Path::new(&binary), patience)?, script)
+}
+
 fn generate_command(mut options: Options) -> Result<bool, String> {
     let name: String = options.value("--family")?.ok_or("--family is missing")?;
     let events = options.value("--events")?.ok_or("--events is missing")?;
@@ -110,19 +122,15 @@ fn measure_command(mut options: Options) -> Result<bool, String> {
     measure(&subject, events, rounds, seed)
 }
 
-/// Request sets by name: `grid:3`, `billiard:7`, `plane:5`; also `full:31`,
-/// where every set has all sites.
+/// Request sets by name: `grid:3`, `billiard:7`, `plane:5`, `levels:2,3,5`;
+/// also `full:31`, where every set has all sites.
 fn lists(name: &str) -> Option<Lists> {
-    let (kind, parameter) = name.split_once(':')?;
-    let parameter: Site = parameter.parse().ok()?;
-    let family = match kind {
-        "grid" => Family::Grid(parameter),
-        "billiard" => Family::Billiard(parameter),
-        "plane" => Family::Plane(parameter),
-        "full" => return (1..=31).contains(&parameter).then(|| rigs::full(parameter.into())),
-        _ => return None,
-    };
-    family.lists().ok()
+    let (kind, parameters) = name.split_once(':')?;
+    let parameters: Vec<u64> = parameters.split(',').map(|word| word.parse().ok()).collect::<Option<_>>()?;
+    match (kind, &parameters[..]) {
+        ("full", &[n @ 1..=31]) => Some(rigs::full(n as usize)),
+        _ => Family::named(kind.as_bytes(), &parameters)?.lists().ok(),
+    }
 }
 
 /// A reader that goes away early (as `head` does) is no fault of ours.

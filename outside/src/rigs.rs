@@ -7,10 +7,11 @@ use crate::random::Random;
 /// The sets of all sites, each ascending, site 1 first.
 pub type Lists = Vec<Vec<Site>>;
 
-/// The sets of a listed family, chosen at random.
+/// The sets of a family, chosen at random.
 pub fn any_family(random: &mut Random) -> Lists {
-    let family = random.pick(&Family::ALL);
-    family.lists().expect("a listed parameter")
+    let family =
+        if random.once_in(3) { random.pick(&Family::all_levels()) } else { random.pick(&Family::LISTED) };
+    family.lists().expect("a family that is made")
 }
 
 /// Random sets of which every two meet.
@@ -155,6 +156,17 @@ pub fn set_line(list: &[Site]) -> String {
 mod tests {
     use super::*;
     use crate::model::{Refusal, Rig};
+
+    #[test]
+    fn every_family_is_chosen() {
+        let mut random = Random::new(3);
+        let mut left: Vec<Lists> = Family::all().iter().map(|family| family.lists().unwrap()).collect();
+        for _ in 0..10_000 {
+            let lists = any_family(&mut random);
+            left.retain(|other| *other != lists);
+        }
+        assert_eq!(left, Vec::<Lists>::new());
+    }
 
     #[test]
     fn meeting_sets_pass_setup() {

@@ -1,14 +1,17 @@
-//! Runs the player under comparison.
+//! Runs the program under comparison.
 
+use std::ffi::OsStr;
 use std::fmt;
 use std::io::{Read, Write};
+use std::os::unix::ffi::OsStrExt;
 use std::path::{Path, PathBuf};
 use std::process::{Child, Command, ExitStatus, Stdio};
 use std::sync::mpsc;
 use std::thread;
 use std::time::Duration;
 
-/// A program that plays the text on its standard input.
+/// A program that plays the text on its standard input, or answers the words
+/// it is called with.
 #[derive(Clone, Debug)]
 pub struct Subject {
     binary: PathBuf,
@@ -25,7 +28,21 @@ pub struct Played {
     pub ending: Ending,
 }
 
-/// How a player ended.
+/// What came of one call.
+#[derive(Clone, Debug, PartialEq, Eq)]
+pub struct Called {
+    /// What it printed to standard output.
+    pub output: Vec<u8>,
+    /// What it printed to standard error.
+    pub errors: Vec<u8>,
+    /// How it ended.
+    pub ending: Ending,
+}
+
+/// The most bytes of a call's output that are read: far more than any answer.
+const LONGEST_ANSWER: u64 = 50_000;
+
+/// How a program ended.
 #[derive(Clone, Copy, Debug, PartialEq, Eq, PartialOrd, Ord)]
 pub enum Ending {
     /// By itself, with this exit code.
@@ -85,7 +102,7 @@ impl Subject {
         let printed = child.stdout.take().expect("it was piped");
         // No right output is longer; a player that prints on is cut off.
         let lines = text.iter().filter(|&&byte| byte == b'\n').count();
-        let mut printed = printed.take(100 * (lines as u64 + 2));
+        let printed = printed.take(100 * (lines as u64 + 2));
         thread::scope(|scope| {
             scope.spawn(move || {
                 // A player that stops early may close its input: no fault.
@@ -95,13 +112,7 @@ impl Subject {
                     }
                 }
             });
-            let reader = scope.spawn(move || {
-                let mut output = Vec::new();
-                let read = printed.read_to_end(&mut output);
-                drop(printed);
-                let _ = ended.send(());
-                read.map(|_| output)
-            });
+            let reader = scope.spawn(move || all_of(printed, &ended));
             let in_time = end.recv_timeout(self.patience).is_ok();
             let ending = end_child(&mut child, in_time).map_err(problem)?;
             let output = reader.join().expect("the reader does not panic");
@@ -109,6 +120,41 @@ impl Subject {
             Ok(Played { output, ending })
         })
     }
+
+    /// Calls it with these words and nothing on its standard input.
+    pub fn call(&self, words: &[Vec<u8>]) -> Result<Called, String> {
+        let problem = |error| format!("{}: {error}", self.binary.display());
+        let mut child = Command::new(&self.binary)
+            .args(words.iter().map(|word| OsStr::from_bytes(word)))
+            .envs(self.environment.iter().cloned())
+            .stdin(Stdio::null())
+            .stdout(Stdio::piped())
+            .stderr(Stdio::piped())
+            .spawn()
+            .map_err(problem)?;
+        let output = child.stdout.take().expect("it was piped").take(LONGEST_ANSWER);
+        let errors = child.stderr.take().expect("it was piped").take(LONGEST_ANSWER);
+        let (ended, end) = mpsc::channel();
+        thread::scope(|scope| {
+            let ended_too = ended.clone();
+            let output = scope.spawn(move || all_of(output, &ended));
+            let errors = scope.spawn(move || all_of(errors, &ended_too));
+            let in_time = (0..2).all(|_| end.recv_timeout(self.patience).is_ok());
+            let ending = end_child(&mut child, in_time).map_err(problem)?;
+            let output = output.join().expect("the reader does not panic").map_err(problem)?;
+            let errors = errors.join().expect("the reader does not panic").map_err(problem)?;
+            Ok(Called { output, errors, ending })
+        })
+    }
+}
+
+/// Reads to the end, closes what was read from, and tells that it ended.
+fn all_of(mut from: impl Read, ended: &mpsc::Sender<()>) -> std::io::Result<Vec<u8>> {
+    let mut bytes = Vec::new();
+    let read = from.read_to_end(&mut bytes);
+    drop(from);
+    let _ = ended.send(());
+    read.map(|_| bytes)
 }
 
 /// Waits for a child that has closed its output; ends one out of time.

@@ -1,5 +1,7 @@
 //! The texts the comparer plays: fixed corner cases, then random ones.
 
+use std::collections::BTreeSet;
+
 use crate::damage::{damage, long_set_line};
 use crate::model::{Family, Site, MOST_ACCEPTED};
 use crate::random::Random;
@@ -97,9 +99,11 @@ pub fn fixed() -> Vec<Text> {
         put(&[b"sites=1\nset=1\nask=1\nask=1", &long[..], b"\nask=1\n"].concat());
         put(&[b"sites=1\nset=1\nask=1\n", &vec![b'\n'; length][..]].concat());
     }
-    // Every family, the whole head and one ask by each site.
-    for family in Family::ALL {
-        let lists = family.lists().expect("a listed parameter");
+    // Every family, the whole head and one ask by each site. Several sides of
+    // levels give the same sets.
+    let families: BTreeSet<Lists> =
+        Family::all().iter().map(|family| family.lists().expect("a family that is made")).collect();
+    for lists in families {
         let mut text = rigs::head(&lists);
         for site in 1..=lists.len() + 1 {
             text += &format!("ask={site}\n");
@@ -315,7 +319,6 @@ fn damaged(random: &mut Random) -> Vec<u8> {
 mod tests {
     use super::*;
     use crate::model::{play, play_with};
-    use std::collections::BTreeSet;
 
     fn codes(output: &str, key: &str) -> BTreeSet<u32> {
         output

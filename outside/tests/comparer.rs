@@ -27,7 +27,7 @@ fn folder(name: &str) -> PathBuf {
 fn plan(folder: &Path) -> Plan {
     Plan {
         seed: 3,
-        texts: Some(1_300),
+        texts: Some(1_400),
         time: None,
         spent: false,
         jobs: 2,

@@ -57,7 +57,7 @@ fn random_runs_keep_the_promises() {
 
 #[test]
 fn runs_of_the_families_keep_the_promises() {
-    for (seed, family) in (0..).zip(Family::ALL) {
+    for (seed, family) in (0..).zip(Family::all()) {
         let lists = family.lists().unwrap();
         check_run(&lists, &mut Schedule::busy(Random::new(seed)), 3_000);
     }

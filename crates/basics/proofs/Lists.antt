@@ -1,12 +1,13 @@
 -- Laws of the list under way: how many of its messages pass a test, what all of them satisfy, and what both become when one is taken
 -- off or appended. An event removes one message and appends at the end; nothing else ever changes the list.
 use Prim.Native.Nat.{ℕ, zero, suc, _+_, _≤_, _<_}
-use mathlib.Core.Path.{_≡_, refl, ap}
+use mathlib.Core.Path.{_≡_, refl, ap, _∙_}
 use mathlib.Core.Bool.{Bool, true, false}
-use mathlib.Core.List.{List, [], _∷_, _++_, map}
+use mathlib.Core.List.{List, [], _∷_, _++_, map, append-assoc}
 use mathlib.Core.Option.{some}
 use native.Mathlib.Omega.{arith}
-use lib.ListN.{take}
+use lib.ListN.{length, take, getD, set, replicate}
+use lib.Seq.{take-suc, set-at, length-take-le}
 use Rattle.basics.specs.Helpers.{tally, first, withoutFirst}
 use Rattle.basics.proofs.Basics.{by-bool}
 
@@ -44,6 +45,11 @@ module _ {A : Type 0} where
   unfolding All
   all-snoc P [] x a h = (h, tt)
   all-snoc P (y ∷ xs) x a h = (a .0, all-snoc P xs x (a .1) h)
+
+  pub all-append : (P : A → Type 0) (xs ys : List A) → All P xs → All P ys → All P (xs ++ ys)
+  unfolding All
+  all-append P [] ys a b = b
+  all-append P (x ∷ xs) ys a b = (a .0, all-append P xs ys (a .1) b)
 
   pub all-map : (P Q : A → Type 0) (xs : List A) → ((x : A) → P x → Q x) → All P xs → All Q xs
   unfolding All
@@ -131,3 +137,9 @@ pub take-map : {A B : Type 0} (f : A → B) (n : ℕ) (xs : List A) → take n (
 take-map f zero xs = refl
 take-map f (suc n) [] = refl
 take-map f (suc n) (x ∷ xs) = ap (λ ys. f x ∷ ys) (take-map f n xs)
+
+-- the first i entries and zeros behind them: one entry more, in the place of a 0
+pub padded-more : (xs : List ℕ) (i m : ℕ) → i < length xs → set (take i xs ++ replicate (suc m) 0) i (getD xs i 0) ≡ take (suc i) xs ++ replicate m 0
+padded-more xs i m h =
+    set-at (take i xs) 0 (replicate m 0) (getD xs i 0) i (length-take-le i xs (omega arith))
+    ∙ rw (take-suc xs i 0 h, append-assoc)

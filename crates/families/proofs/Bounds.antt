@@ -6,9 +6,9 @@ use native.Mathlib.Nat.{mul-le-mul, one-mul, mod-eq-of-lt}
 use native.Mathlib.Omega.{arith}
 use lib.Pow.{pow-lt}
 use Rattle.families.specs.declared.Family.{Family}
-use Rattle.families.specs.declared.Family.the-variants.{Grid, Billiard, Plane}
+use Rattle.families.specs.declared.Family.the-variants.{Grid, Billiard, Plane, Levels}
 use Rattle.families.specs.Family.{computed, sizeOf}
-use Rattle.families.proofs.Parameters.{side-bounds, p-bounds}
+use Rattle.families.proofs.Parameters.{side-bounds, p-bounds, sides}
 use Rattle.family_billiard.specs.Billiard.{billiardSize}
 use Rattle.family_billiard.proofs.Locations.{size-most}
 
@@ -25,3 +25,4 @@ unfolding sizeOf computed
 sites-most (Grid s) h = let l = side-bounds s h in let m = mul-le-mul (l .1) (l .1) in omega arith
 sites-most (Billiard q) h = size-most q h
 sites-most (Plane p) h = let l = p-bounds p h in let k : p + 1 ≤ 6 = omega arith in let m = mul-le-mul (l .1) k in omega arith
+sites-most (Levels a b c) h = omega (arith, sides a b c h .most)

@@ -1,2 +1,2 @@
--- The three families of request sets of document 01.
+-- The four families of request sets.
 pub mod Family

@@ -1,6 +1,8 @@
-// Three families of request sets: the grid, the billiard and the plane.
+// Four families of request sets: the grid, the billiard, the plane and the levels.
 use family_billiard::billiard_entry;
 use family_grid::grid_entry;
+use family_levels::levels_entry;
+use family_levels::sides_listed;
 use family_plane_table::plane_entry;
 use rig::Rig;
 ghost use mathlib.Core.Path.{_≡_};
@@ -12,11 +14,12 @@ ghost use Rattle.family_billiard.specs.Billiard.{billiardSize};
 ghost use Rattle.model.specs.Setup.{setupCode};
 ghost use Rattle.families.specs.Family.{listed, computed, sizeOf, widthOf, entry, hasSite, setAt, setsOf, made, filled, billiardSet};
 
-// A family with its parameter: the grid's side s, the billiard's q, the plane's p.
+// A family with its parameters: the grid's side s, the billiard's q, the plane's p, the rows, bays and levels of the levels.
 pub enum Family {
     Grid(u64),
     Billiard(u64),
     Plane(u64),
+    Levels(u64, u64, u64),
 }
 
 // What generating a family answers: 0 accepted, 12 or 13; the number of sites, 0 with a refusal.
@@ -63,6 +66,7 @@ fn is_listed(family: Family) -> bool
         Family::Grid(s) => 1 <= s && s <= 5,
         Family::Billiard(q) => q == 3 || (q == 5 || q == 7),
         Family::Plane(p) => p == 2 || (p == 3 || p == 5),
+        Family::Levels(a, b, c) => sides_listed(a, b, c),
     }
 }
 
@@ -130,6 +134,7 @@ fn size_of(family: Family) -> u64
         Family::Grid(s) => s * s,
         Family::Billiard(q) => (q * q - 1) / 2,
         Family::Plane(p) => p * (p + 1) + 1,
+        Family::Levels(a, b, c) => a * b * c,
     }
 }
 
@@ -141,6 +146,7 @@ fn width_of(family: Family) -> u64
         Family::Grid(s) => s + s,
         Family::Billiard(q) => q,
         Family::Plane(p) => p + 1,
+        Family::Levels(a, b, c) => a * b + c,
     }
 }
 
@@ -152,5 +158,6 @@ fn entry(family: Family, n: u64, k: u64) -> u64
         Family::Grid(s) => grid_entry(s, n, k),
         Family::Billiard(q) => billiard_entry(q, n, k),
         Family::Plane(p) => plane_entry(p, n, k),
+        Family::Levels(a, b, c) => levels_entry(a, b, n, k),
     }
 }

@@ -1,2 +1,3 @@
--- The sets that a family's rule makes.
+-- The sets that a family's rule makes, and what it means that sets meet.
 pub mod Rule
+pub mod Meeting

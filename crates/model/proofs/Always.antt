@@ -38,6 +38,7 @@ use Rattle.model.specs.Site.{takes}
 use Rattle.model.specs.Run.{fresh, run, Always}
 use Rattle.model.specs.Always.{NineByCount, NumbersWithin, NumbersSmall, AlwaysShaped, AlwaysLong, fitsRule, allFit, NeverStray}
 use Rattle.model.proofs.Setup.{Accepted, accepts, accepted-code}
+use Rattle.model.proofs.Shaped.{in-range}
 use Rattle.model.proofs.Machine.{modeNumber, sentOf, rigOf, rests-same, waits-same}
 use Rattle.model.proofs.Lawful.{told-below, systemFrom, lawful, kept-past, kept-accepted}
 use Rattle.model.proofs.Plain.{wireOf, AllPlain, both}
@@ -81,9 +82,6 @@ entry-shaped false n a b = by-bool (eqb n 0) (λ e. e) (λ e. clash false (b (eq
 everywhere-of : (p : ℕ → ℕ → ℕ → Bool) (table : List (List ℕ)) → ((i j : ℕ) → p i j (cell table i j) ≡ true) → everywhere p table ≡ true
 unfolding everywhere
 everywhere-of p table h = all-of _ siteLimit (λ i a b. all-of _ siteLimit (λ j c d. h i j))
-
-in-range : (n k : ℕ) → 1 ≤ k → k ≤ n → inRange n k ≡ true
-in-range n k a b = rw (le-leb 1 k a, le-leb k n b)
 
 -- the last messages of a list
 last-numbers : (b : ℕ) (xs ys : List Message) → b ≤ numberLimit → numbersUpTo b (xs ++ ys) ≡ true → numbersUpTo numberLimit ys ≡ true

@@ -5,7 +5,7 @@ use mathlib.Core.Logic.{_≢_, ⊎-elim}
 use mathlib.Core.Bool.{true, false}
 use native.Mathlib.Omega.{arith}
 use lib.Dec.{eqb, leb}
-use borrow.Author.Tests.{eqb-true, eqb-false, ne-eqb, leb-true, leb-false}
+use borrow.Author.Tests.{eqb-true, eqb-false, ne-eqb, leb-true, leb-false, le-leb}
 use Rattle.basics.specs.Helpers.{all}
 use Rattle.basics.proofs.Basics.{by-bool, clash, and-split, or-either, all-at}
 use Rattle.rig.specs.declared.Message.{Message}
@@ -74,6 +74,9 @@ shaped s e =
 
 pub within : (n k : ℕ) → inRange n k ≡ true → (1 ≤ k) × (k ≤ n)
 within n k e = let w = and-split (leb 1 k) (leb k n) e in (leb-true 1 k (w .0), leb-true k n (w .1))
+
+pub in-range : (n k : ℕ) → 1 ≤ k → k ≤ n → inRange n k ≡ true
+in-range n k a b = rw (le-leb 1 k a, le-leb k n b)
 
 number : (n : ℕ) → isNumber n ≡ true → n ≤ numberLimit
 unfolding isNumber

@@ -26,8 +26,8 @@ fn places(n: u64) -> usize
     k
 }
 
-// The number n in decimal, from place `at` on, the last digit first; answers the place behind it.
-fn put_decimal(page: &mut [u8], at: usize, n: u64) -> usize
+// An inner call: the number n in decimal, from place `at` on, the last digit first; answers the place behind it.
+pub fn put_decimal(page: &mut [u8], at: usize, n: u64) -> usize
     requires { ⌜ at + 20 ≤ length (now page) ⌝ }
     ensures { λ r. ⌜ Wrote (decimal n) at (now (page .entry)) (now (page .exit)) r ⌝ }
 {

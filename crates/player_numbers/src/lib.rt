@@ -11,7 +11,7 @@ pub enum Number {
 }
 
 // Whether a byte is a digit.
-fn is_digit(b: u8) -> bool
+pub fn is_digit(b: u8) -> bool
     ensures { λ r. ⌜ r ≡ isDigit b ⌝ }
 {
     if b < b'0' {
@@ -29,7 +29,7 @@ fn with_digit(n: u64, b: u8) -> u64
 }
 
 // Whether there is one byte, or more of which the first is not `0`.
-fn no_leading_zero(part: &[u8]) -> bool
+pub fn no_leading_zero(part: &[u8]) -> bool
     ensures { λ r. ⌜ r ≡ noLeadingZero (now (part .entry)) ⌝ }
 {
     if part.len() == 0 {

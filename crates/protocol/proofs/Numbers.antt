@@ -2,7 +2,7 @@
 use Prim.Native.Nat.{ℕ, zero, suc, _+_, _*_, _≤_, max}
 use mathlib.Core.Path.{_≡_, refl}
 use mathlib.Core.Bool.{Bool, false, not, _&&_, cond}
-use mathlib.Core.List.{List, [], _∷_, _++_}
+use mathlib.Core.List.{List, [], _∷_}
 use mathlib.Core.Option.{Option, none, some}
 use native.Mathlib.Omega.{arith}
 use lib.Dec.{eqb, leb}
@@ -17,7 +17,7 @@ use Rattle.protocol.specs.Site.{yielded, entered, taken, failedInquired,
 use Rattle.protocol.specs.System.{System, settingOf}
 use Rattle.protocol.specs.Rig.{Row, Sent, Rig, rowOf, sentBy, inOrder, channel, Event, ask, leave, deliver, withoutEntries, localAt, rowsTaken, made, asked, left, allHeld, withEffect, delivered, takenOff, step, run, fresh}
 use Rattle.basics.proofs.Basics.{by-bool}
-use Rattle.basics.proofs.Lists.{All, all-snoc, all-map, all-without}
+use Rattle.basics.proofs.Lists.{All, all-append, all-snoc, all-map, all-without}
 use Rattle.protocol.proofs.Invariant.{numberOf}
 
 -- of a message
@@ -215,11 +215,6 @@ pub record RigBelow (b : ℕ) (r : Rig) : Type 0 where
   pub underWay : All (SentBelow b) r.underWay
 
 -- of what is sent by many
-all-append : {A : Type 0} (P : A → Type 0) (xs ys : List A) → All P xs → All P ys → All P (xs ++ ys)
-unfolding All
-all-append P [] ys a c = c
-all-append P (x ∷ xs) ys a c = (a .0, all-append P xs ys (a .1) c)
-
 all-sentBy : (b j : ℕ) (ms : List Message) → All (NumberBelow b) ms → All (SentBelow b) (sentBy j ms)
 unfolding All sentBy
 all-sentBy b j [] a = tt

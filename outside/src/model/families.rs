@@ -1,4 +1,5 @@
-//! The three families of request sets.
+//! The families of request sets: document 01's three, and the levels of
+//! request 2.1.
 
 use super::setup::set_of;
 use super::{Refusal, Site, MOST_SITES};
@@ -7,16 +8,18 @@ use super::{Refusal, Site, MOST_SITES};
 #[derive(Clone, Copy, Debug, PartialEq, Eq)]
 pub enum Family {
     /// A square of the given side.
-    Grid(Site),
+    Grid(u64),
     /// Broken billiard paths (source document 000) on a board of the given side.
-    Billiard(Site),
+    Billiard(u64),
     /// The projective plane (source document 002) of the given order.
-    Plane(Site),
+    Plane(u64),
+    /// Desks on so many rows, bays and levels (request 2.1).
+    Levels(u64, u64, u64),
 }
 
 impl Family {
-    /// Every family with every parameter the paper lists.
-    pub const ALL: [Family; 11] = [
+    /// The families of document 01 with every parameter it lists.
+    pub const LISTED: [Family; 11] = [
         Family::Grid(1),
         Family::Grid(2),
         Family::Grid(3),
@@ -30,15 +33,61 @@ impl Family {
         Family::Plane(5),
     ];
 
-    /// The sets as lists, site 1 first; 12 if the parameter is not listed.
+    /// Every rig on levels: all sides with a product of at most 31.
+    pub fn all_levels() -> Vec<Family> {
+        let sides = 1..=MOST_SITES as u64;
+        let mut all = Vec::new();
+        for a in sides.clone() {
+            for b in sides.clone() {
+                all.extend(sides.clone().map(|c| Family::Levels(a, b, c)));
+            }
+        }
+        all.retain(|family| family.is_made());
+        all
+    }
+
+    /// Every family with every parameter for which it is made.
+    pub fn all() -> Vec<Family> {
+        [&Family::LISTED[..], &Family::all_levels()].concat()
+    }
+
+    /// The family of this name with these parameters; nothing if there is no
+    /// such name or it takes another number of them.
+    pub fn named(name: &[u8], parameters: &[u64]) -> Option<Family> {
+        match (name, parameters) {
+            (b"grid", &[side]) => Some(Family::Grid(side)),
+            (b"billiard", &[q]) => Some(Family::Billiard(q)),
+            (b"plane", &[p]) => Some(Family::Plane(p)),
+            (b"levels", &[a, b, c]) => Some(Family::Levels(a, b, c)),
+            _ => None,
+        }
+    }
+
+    /// Whether the paper has this family with this parameter.
+    fn is_made(self) -> bool {
+        match self {
+            Family::Levels(a, b, c) => {
+                // A product of sides from 1 up is no smaller than any of them,
+                // so a side above the most gives no rig; the others are small.
+                let most = MOST_SITES as u64;
+                [a, b, c].iter().all(|side| (1..=most).contains(side)) && a * b * c <= most
+            }
+            _ => Family::LISTED.contains(&self),
+        }
+    }
+
+    /// The sets as lists, site 1 first; 12 if the parameter is not listed, or
+    /// the sides are not as they should be.
     pub fn lists(self) -> Result<Vec<Vec<Site>>, Refusal> {
-        if !Family::ALL.contains(&self) {
+        if !self.is_made() {
             return Err(Refusal::Parameter);
         }
+        // No parameter that passes is above 31.
         Ok(match self {
-            Family::Grid(side) => grid(side),
-            Family::Billiard(q) => billiard(q),
-            Family::Plane(p) => plane(p),
+            Family::Grid(side) => grid(side as Site),
+            Family::Billiard(q) => billiard(q as Site),
+            Family::Plane(p) => plane(p as Site),
+            Family::Levels(a, b, c) => levels(a as Site, b as Site, c as Site),
         })
     }
 
@@ -146,6 +195,23 @@ fn plane(p: Site) -> Vec<Vec<Site>> {
         }
     }
     rows
+}
+
+/// Sites level by level, on a level row by row, in a row bay by bay. A site's
+/// set is every site of its level and every site with its row and bay.
+fn levels(a: Site, b: Site, c: Site) -> Vec<Vec<Site>> {
+    let mut desks = Vec::new();
+    for level in 1..=c {
+        for row in 1..=a {
+            desks.extend((1..=b).map(|bay| (row, bay, level)));
+        }
+    }
+    let takes = |one: (Site, Site, Site), other: (Site, Site, Site)| {
+        other.2 == one.2 || (other.0, other.1) == (one.0, one.1)
+    };
+    let set =
+        |one| (1..).zip(&desks).filter(|(_, other)| takes(one, **other)).map(|(site, _)| site).collect();
+    desks.iter().map(|&one| set(one)).collect()
 }
 
 #[cfg(test)]
@@ -292,9 +358,85 @@ mod tests {
         assert_eq!(Family::Grid(1).lists().unwrap(), [[1]]);
     }
 
+    /// Drawn by hand: two levels of two rows and two bays each. On the lower
+    /// one stand the sites 1 2 / 3 4, on the upper one 5 6 / 7 8.
+    #[test]
+    fn levels_of_two_are_as_drawn() {
+        let drawn: [[Site; 5]; 8] = [
+            [1, 2, 3, 4, 5],
+            [1, 2, 3, 4, 6],
+            [1, 2, 3, 4, 7],
+            [1, 2, 3, 4, 8],
+            [1, 5, 6, 7, 8],
+            [2, 5, 6, 7, 8],
+            [3, 5, 6, 7, 8],
+            [4, 5, 6, 7, 8],
+        ];
+        assert_eq!(Family::Levels(2, 2, 2).lists().unwrap(), drawn);
+    }
+
+    /// With three rows, two bays and five levels no two sides can be mistaken
+    /// for each other.
+    #[test]
+    fn levels_of_three_sides() {
+        let lists = Family::Levels(3, 2, 5).lists().unwrap();
+        assert_eq!(lists.len(), 30);
+        assert_eq!(lists[0], [1, 2, 3, 4, 5, 6, 7, 13, 19, 25]);
+        assert_eq!(lists[9], [4, 7, 8, 9, 10, 11, 12, 16, 22, 28]);
+        assert_eq!(lists[29], [6, 12, 18, 24, 25, 26, 27, 28, 29, 30]);
+        // Rows and bays only number the places of a level.
+        assert_eq!(lists, Family::Levels(2, 3, 5).lists().unwrap());
+        assert_ne!(lists, Family::Levels(5, 2, 3).lists().unwrap());
+    }
+
+    /// The number of a site by the formula, and its set by going along the
+    /// level and along the column through it.
+    #[test]
+    fn levels_are_numbered_by_the_formula() {
+        let all = Family::all_levels();
+        for family in &all {
+            let &Family::Levels(a, b, c) = family else { panic!("{family:?}") };
+            let lists = family.lists().unwrap();
+            let number = |row, bay, level| (level - 1) * a * b + (row - 1) * b + bay;
+            for (row, bay, level) in (1..=a)
+                .flat_map(|row| (1..=b).flat_map(move |bay| (1..=c).map(move |level| (row, bay, level))))
+            {
+                let mut set = 0;
+                for i in 1..=a {
+                    for j in 1..=b {
+                        set |= setup::bit(number(i, j, level) as Site);
+                    }
+                }
+                for k in 1..=c {
+                    set |= setup::bit(number(row, bay, k) as Site);
+                }
+                let site = number(row, bay, level) as usize;
+                assert_eq!(lists[site - 1], setup::members(set), "{family:?} site {site}");
+                assert_eq!(lists[site - 1].len() as u64, a * b + c - 1);
+            }
+        }
+    }
+
+    /// Every triple once, counted over the divisors of each product.
+    #[test]
+    fn every_product_of_at_most_31_is_there() {
+        let mut count = 0;
+        for n in 1..=31 {
+            for a in (1..=n).filter(|a| n % a == 0) {
+                count += (1..=n / a).filter(|b| n / a % b == 0).count();
+            }
+        }
+        let all = Family::all_levels();
+        assert_eq!(all.len(), count);
+        assert!(all.iter().enumerate().all(|(place, family)| !all[..place].contains(family)));
+        for sides in [(1, 1, 31), (1, 31, 1), (31, 1, 1), (1, 2, 15), (5, 3, 2), (3, 3, 3)] {
+            assert!(all.contains(&Family::Levels(sides.0, sides.1, sides.2)), "{sides:?}");
+        }
+    }
+
     #[test]
     fn every_family_passes_setup() {
-        for family in Family::ALL {
+        for family in Family::all() {
             let mut buffer = [u64::MAX; MOST_SITES];
             let n = family.fill(&mut buffer).unwrap();
             assert_eq!(setup::judge(n, &buffer), Ok(()), "{family:?}");
@@ -303,8 +445,9 @@ mod tests {
                 Family::Grid(s) => s * s,
                 Family::Billiard(q) => (q * q - 1) / 2,
                 Family::Plane(p) => p * (p + 1) + 1,
+                Family::Levels(a, b, c) => a * b * c,
             };
-            assert_eq!(n, usize::from(expected));
+            assert_eq!(n as u64, expected);
             assert!(family.lists().unwrap().iter().all(|list| list.is_sorted()));
         }
     }
@@ -321,10 +464,41 @@ mod tests {
             Family::Plane(1),
             Family::Plane(4),
             Family::Plane(7),
+            Family::Grid(u64::MAX),
+            Family::Grid((1 << 16) + 3),
+            Family::Levels(0, 1, 1),
+            Family::Levels(1, 0, 1),
+            Family::Levels(1, 1, 0),
+            Family::Levels(0, u64::MAX, u64::MAX),
+            Family::Levels(4, 4, 2),
+            Family::Levels(1, 1, 32),
+            Family::Levels(1, 32, 1),
+            Family::Levels(32, 1, 1),
+            Family::Levels(1 << 32, 1 << 32, 1),
+            // 2 to the power 65, plus 1.
+            Family::Levels(3, 0xaaaa_aaaa_aaaa_aaab, 1),
+            Family::Levels(u64::MAX, u64::MAX, 1),
+            Family::Levels(u64::MAX, u64::MAX, u64::MAX),
         ] {
             assert_eq!(family.fill(&mut buffer), Err(Refusal::Parameter));
             assert_eq!(family.fill(&mut buffer[..30]), Err(Refusal::Buffer));
         }
         assert_eq!(buffer, [7; MOST_SITES]);
+    }
+
+    #[test]
+    fn names_take_their_number_of_parameters() {
+        assert_eq!(Family::named(b"grid", &[3]), Some(Family::Grid(3)));
+        assert_eq!(Family::named(b"billiard", &[4]), Some(Family::Billiard(4)));
+        assert_eq!(Family::named(b"plane", &[5]), Some(Family::Plane(5)));
+        assert_eq!(Family::named(b"levels", &[2, 3, 5]), Some(Family::Levels(2, 3, 5)));
+        for name in [&b"grid"[..], b"billiard", b"plane", b"levels", b"", b"cube"] {
+            for count in [0, 2, 4] {
+                assert_eq!(Family::named(name, &vec![1; count]), None);
+            }
+        }
+        assert_eq!(Family::named(b"grid", &[1, 1, 1]), None);
+        assert_eq!(Family::named(b"levels", &[1]), None);
+        assert_eq!(Family::named(b"Grid", &[1]), None);
     }
 }

@@ -3,7 +3,8 @@ use native.Mathlib.Nat.{mul-le-mul}
 use native.Mathlib.Omega.{arith}
 use borrow.Author.Needs.{needs}
 use Rattle.families.specs.Family.{computed, sizeOf, widthOf, entry}
-use Rattle.families.proofs.Parameters.{side-bounds, p-bounds}
+use Rattle.families.proofs.Parameters.{side-bounds, p-bounds, sides}
+use Rattle.family_levels.proofs.Sides.{level-fits, width-most}
 use Rattle.families.proofs.entry.Statement.{statement}
 use Rattle.families.proofs.entry.Tie as tie
 
@@ -47,6 +48,22 @@ returns-3 : tie.Need-returns-3
 unfolding entry
 returns-3 c = rw (c .before .before .family3 .given .1) (c .plane-entry .ensures)
 
+enum-known-family-4 : tie.Need-enum-known-family-4
+enum-known-family-4 c = search needs
+
+levels-entry-requires : tie.Need-levels-entry-requires
+unfolding sizeOf widthOf
+levels-entry-requires c κs =
+    let p = rw (c .before .family4 .given .1) at (c .before .before .before .pre) in
+    let s = sides _ _ _ (p .0) in
+    let w = width-most _ _ _ s in
+    let m = s .most in
+    (level-fits _ _ _ s, (p .1, omega arith), p .3, omega arith)
+
+returns-4 : tie.Need-returns-4
+unfolding entry
+returns-4 c = rw (c .before .before .family4 .given .1) (c .levels-entry .ensures)
+
 pub entry-spec : {M : Type 1} → statement M
 entry-spec =
     tie.close
@@ -57,6 +74,9 @@ entry-spec =
     billiard-entry-requires
     enum-known-family-3
     plane-entry-requires
+    enum-known-family-4
+    levels-entry-requires
     returns
     returns-2
-    returns-3)
+    returns-3
+    returns-4)

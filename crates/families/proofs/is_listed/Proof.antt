@@ -46,6 +46,16 @@ returns-8 : tie.Need-returns-8
 unfolding listed
 returns-8 c = rw (c .before .before .before .family3 .given .1) (simp (ne-eqb _ _ (c .before .if4 .left), ne-eqb _ _ (c .if5 .left)))
 
+enum-known-family-4 : tie.Need-enum-known-family-4
+enum-known-family-4 c = search needs
+
+sides-listed-requires : tie.Need-sides-listed-requires
+sides-listed-requires c κs = search needs
+
+returns-9 : tie.Need-returns-9
+unfolding listed
+returns-9 c = rw (c .before .before .family4 .given .1) (c .sides-listed .ensures)
+
 pub is-listed-spec : {M : Type 1} → statement M
 is-listed-spec =
     tie.close
@@ -53,6 +63,8 @@ is-listed-spec =
     enum-known-family
     enum-known-family-2
     enum-known-family-3
+    enum-known-family-4
+    sides-listed-requires
     returns
     returns-2
     returns-3
@@ -60,4 +72,5 @@ is-listed-spec =
     returns-5
     returns-6
     returns-7
-    returns-8)
+    returns-8
+    returns-9)

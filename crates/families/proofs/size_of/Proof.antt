@@ -4,7 +4,8 @@ use native.Mathlib.Omega.{arith}
 use borrow.Author.Needs.{needs}
 use Rattle.families.specs.Family.{computed, sizeOf}
 use Rattle.basics.proofs.Numbers.{product, square-least}
-use Rattle.families.proofs.Parameters.{side-bounds, p-bounds}
+use Rattle.families.proofs.Parameters.{side-bounds, p-bounds, sides}
+use Rattle.family_levels.proofs.Sides.{level-fits}
 use Rattle.family_billiard.proofs.Parameters.{q-bounds}
 use Rattle.families.proofs.size_of.Statement.{statement}
 use Rattle.families.proofs.size_of.Tie as tie
@@ -60,6 +61,19 @@ returns-3 : tie.Need-returns-3
 unfolding sizeOf
 returns-3 c = rw (c .before .family3 .given .1)
 
+enum-known-family-4 : tie.Need-enum-known-family-4
+enum-known-family-4 c = search needs
+
+mul-result-4 : tie.Need-mul-result-4
+mul-result-4 c = omega (arith, level-fits _ _ _ (sides _ _ _ (rw (c .before .family4 .given .1) at (c .before .before .before .pre))))
+
+mul-result-5 : tie.Need-mul-result-5
+mul-result-5 c = omega (arith, sides _ _ _ (rw (c .before .family4 .given .1) at (c .before .before .before .pre)) .most)
+
+returns-4 : tie.Need-returns-4
+unfolding sizeOf
+returns-4 c = rw (c .before .family4 .given .1)
+
 pub size-of-spec : {M : Type 1} → statement M
 size-of-spec =
     tie.close
@@ -73,6 +87,10 @@ size-of-spec =
     add-result
     mul-result-3
     add-result-2
+    enum-known-family-4
+    mul-result-4
+    mul-result-5
     returns
     returns-2
-    returns-3)
+    returns-3
+    returns-4)

@@ -2,7 +2,8 @@
 use native.Mathlib.Omega.{arith}
 use borrow.Author.Needs.{needs}
 use Rattle.families.specs.Family.{widthOf}
-use Rattle.families.proofs.Parameters.{side-bounds, p-bounds}
+use Rattle.families.proofs.Parameters.{side-bounds, p-bounds, sides}
+use Rattle.family_levels.proofs.Sides.{level-fits, width-most}
 use Rattle.families.proofs.width_of.Statement.{statement}
 use Rattle.families.proofs.width_of.Tie as tie
 
@@ -33,6 +34,19 @@ returns-3 : tie.Need-returns-3
 unfolding widthOf
 returns-3 c = rw (c .before .family3 .given .1)
 
+enum-known-family-4 : tie.Need-enum-known-family-4
+enum-known-family-4 c = search needs
+
+mul-result : tie.Need-mul-result
+mul-result c = omega (arith, level-fits _ _ _ (sides _ _ _ (rw (c .before .family4 .given .1) at (c .before .before .before .pre))))
+
+add-result-3 : tie.Need-add-result-3
+add-result-3 c = omega (arith, width-most _ _ _ (sides _ _ _ (rw (c .before .family4 .given .1) at (c .before .before .before .pre))))
+
+returns-4 : tie.Need-returns-4
+unfolding widthOf
+returns-4 c = rw (c .before .family4 .given .1)
+
 pub width-of-spec : {M : Type 1} → statement M
 width-of-spec =
     tie.close
@@ -42,6 +56,10 @@ width-of-spec =
     enum-known-family-2
     enum-known-family-3
     add-result-2
+    enum-known-family-4
+    mul-result
+    add-result-3
     returns
     returns-2
-    returns-3)
+    returns-3
+    returns-4)

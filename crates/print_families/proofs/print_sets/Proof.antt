@@ -5,10 +5,10 @@ use Rattle.print_families.proofs.print_sets.Statement.{statement}
 use Rattle.print_families.proofs.print_sets.Tie as tie
 
 abbrev Inv-loop : tie.InvT-loop
-Inv-loop name parameter size sets i₀ i = i ≤ 31
+Inv-loop family size sets i₀ i = i ≤ 31
 
 abbrev μ-loop : tie.MeasureT-loop
-μ-loop name parameter size sets i₀ i = 31 - i
+μ-loop family size sets i₀ i = 31 - i
 
 loop-holds : tie.Need-loop-holds Inv-loop μ-loop
 loop-holds c = search needs

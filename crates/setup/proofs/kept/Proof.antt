@@ -1,23 +1,17 @@
 -- `kept`: the sets passed so far, and 0 in the places after them.
-use Prim.Native.Nat.{ℕ, suc, _+_, _≤_, _<_, _-_}
+use Prim.Native.Nat.{suc, _+_, _≤_, _-_}
 use mathlib.Core.Path.{_≡_, refl, _∙_}
-use mathlib.Core.List.{List, _++_, append-assoc}
+use mathlib.Core.List.{_++_}
 use native.Mathlib.Omega.{arith}
 use native.Mathlib.Numerals.{add-one}
 use borrow.Author.Needs.{needs}
 use denote.Ref.{now}
-use lib.ListN.{length, take, getD, set, replicate, length-set}
-use lib.Seq.{take-suc, set-at, length-take-le}
+use lib.ListN.{length, take, replicate, length-set}
 use Rattle.rig.specs.Limits.{siteLimit}
+use Rattle.basics.proofs.Lists.{padded-more}
 use Rattle.model.specs.Setup.{keptSets}
 use Rattle.setup.proofs.kept.Statement.{statement}
 use Rattle.setup.proofs.kept.Tie as tie
-
--- one set more, in the place of a 0
-one-more : (xs : List ℕ) (i m : ℕ) → i < length xs → set (take i xs ++ replicate (suc m) 0) i (getD xs i 0) ≡ take (suc i) xs ++ replicate m 0
-one-more xs i m h =
-    set-at (take i xs) 0 (replicate m 0) (getD xs i 0) i (length-take-le i xs (omega arith))
-    ∙ rw (take-suc xs i 0 h, append-assoc)
 
 abbrev Inv-loop : tie.InvT-loop
 Inv-loop size sets out₀ i₀ i-end out i =
@@ -55,7 +49,7 @@ loop-again c =
       omega arith,
       refl,
       simp length-set (l .inv .2),
-      rw (l .inv .3, room) (one-more xs (l .i) (siteLimit - (l .i + 1)) (omega arith) ∙ rw add-one),
+      rw (l .inv .3, room) (padded-more xs (l .i) (siteLimit - (l .i + 1)) (omega arith) ∙ rw add-one),
     )
 
 returns : tie.Need-returns Inv-loop μ-loop

@@ -1,0 +1,6 @@
+-- Laws that `families` cites.
+pub mod Accepted
+pub mod Bounds
+pub mod Examples
+pub mod Meeting
+pub mod Sides

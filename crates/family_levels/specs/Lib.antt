@@ -1,0 +1,2 @@
+-- The levels of request 2.1.
+pub mod Levels

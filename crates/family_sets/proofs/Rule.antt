@@ -1,0 +1,76 @@
+-- The sets that a rule makes, and that setup accepts them where the rule names a common site for every two.
+use Prim.Native.Nat.{ℕ, zero, suc}
+use mathlib.Core.Path.{_≡_, refl, sym, _∙_}
+use mathlib.Core.Bool.{Bool, true}
+use mathlib.Core.List.{[], _∷_}
+use native.Mathlib.Omega.{arith}
+use lib.Dec.{eqb}
+use lib.ListN.{length, length-append, List·getD-append}
+use lib.Seq.{getD-append-seam}
+use borrow.Author.Tests.{eqb-true, eqb-false, le-leb, lt-ltb}
+use Rattle.rig.specs.Limits.{siteLimit}
+use Rattle.basics.proofs.Basics.{by-bool, clash, and-true, not-of}
+use Rattle.model.specs.Tables.{at}
+use Rattle.model.specs.Sets.{member, setOf, names}
+use Rattle.model.proofs.Lawful.{no-members}
+use Rattle.family_sets.specs.Meeting.{SiteTo, Common}
+use Rattle.family_sets.specs.Rule.{isEntry, setBy, setsUpTo, codeBy}
+use Rattle.family_sets.proofs.Bounds.{set-below}
+use Rattle.family_sets.proofs.Members.{member-of}
+use Rattle.family_sets.proofs.Meeting.{meeting-accepted}
+
+-- a set with a site of 1 to n in it names sites of 1 to n, and is not empty
+set-names : (p : ℕ → Bool) (n m : ℕ) → SiteTo n m → p m ≡ true → names n (setOf p n) ≡ true
+unfolding names
+set-names p n m h t =
+    by-bool (eqb (setOf p n) 0)
+    (λ e. clash (p m) t (sym (member-of p n m (h .0) (h .1)) ∙ rw (eqb-true (setOf p n) 0 e) (no-members m)))
+    (λ e. and-true _ _ (not-of _ e) (lt-ltb _ _ (set-below p n)))
+
+module _ (entry : ℕ → ℕ → ℕ) (width size : ℕ) where
+  length-sets : (n : ℕ) → length (setsUpTo entry width size n) ≡ n
+  unfolding setsUpTo
+  length-sets zero = refl
+  length-sets (suc n) = let e = length-sets n in simp length-append (omega arith)
+
+  -- the entry of site k
+  set-of-site : (n k : ℕ) → SiteTo n k → at 0 (setsUpTo entry width size n) k ≡ setBy entry width size k
+  unfolding setsUpTo at
+  set-of-site n zero h = absurd (omega arith)
+  set-of-site zero (suc i) h = absurd (omega arith)
+  set-of-site (suc n) (suc i) h =
+      let e = length-sets n in
+      by-bool (eqb i n)
+      (λ t. let s = getD-append-seam (setsUpTo entry width size n) (setBy entry width size (suc n)) [] 0 in rw (eqb-true i n t) (rw e at s))
+      (λ t. let d = eqb-false i n t in
+      rw (List·getD-append (setsUpTo entry width size n) (setBy entry width size (suc n) ∷ []) 0 i (omega arith))
+      (set-of-site n (suc i) (omega arith, omega arith)))
+
+  -- "Entries past N become empty": the set of a site of the family
+  set-of-rule : (n : ℕ) → SiteTo size n → setBy entry width size n ≡ setOf (isEntry entry width n) size
+  unfolding setBy
+  set-of-rule n h = rw (le-leb 1 n (h .0), le-leb n size (h .1))
+
+  -- a common site for every two sets, of at most as many sites as a rig may have: setup's code is 0
+  pub rule-accepted : SiteTo siteLimit size
+      → ((n l : ℕ) → SiteTo size n → SiteTo size l → Common size (isEntry entry width n) (isEntry entry width l))
+      → codeBy entry width size ≡ 0
+  rule-accepted h common = meeting-accepted size (setsUpTo entry width size siteLimit) (length-sets siteLimit) h named shared
+    where
+      made : (k : ℕ) → SiteTo size k → at 0 (setsUpTo entry width size siteLimit) k ≡ setOf (isEntry entry width k) size
+      made k a = let c = h .1 in set-of-site siteLimit k (a .0, omega arith) ∙ set-of-rule k a
+
+      named : (k : ℕ) → SiteTo size k → names size (at 0 (setsUpTo entry width size siteLimit) k) ≡ true
+      named k a = let s = common k k a a in rw (made k a) (set-names (isEntry entry width k) size (s .site) (s .inRange) (s .first))
+
+      shared : (k l : ℕ) → SiteTo size k → SiteTo size l
+          → Common size (member (at 0 (setsUpTo entry width size siteLimit) k)) (member (at 0 (setsUpTo entry width size siteLimit) l))
+      shared k l a b =
+          let s = common k l a b in
+          let r = s .inRange in
+          record {
+            site = s .site;
+            inRange = r;
+            first = rw (made k a) (member-of (isEntry entry width k) size (s .site) (r .0) (r .1) ∙ s .first);
+            second = rw (made l b) (member-of (isEntry entry width l) size (s .site) (r .0) (r .1) ∙ s .second);
+          }

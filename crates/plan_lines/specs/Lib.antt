@@ -1,0 +1,2 @@
+-- The lines that a plan prints.
+pub mod Lines

@@ -1,0 +1,3 @@
+-- What the player makes of a printed family.
+pub mod Ready
+pub mod ReadBack

@@ -1,0 +1,2 @@
+-- The text of a family that was generated.
+pub mod Made

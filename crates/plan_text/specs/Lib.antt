@@ -1,0 +1,2 @@
+-- What a command prints.
+pub mod Plan

@@ -1,0 +1,4 @@
+-- Laws of a command's words.
+pub mod Words
+pub mod Numbers
+pub mod Examples

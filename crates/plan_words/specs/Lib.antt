@@ -1,0 +1,2 @@
+-- What the words of a command ask.
+pub mod Words
