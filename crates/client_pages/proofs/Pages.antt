@@ -3,10 +3,10 @@ use Prim.Native.Nat.{ℕ, _+_, _-_, _≤_}
 use mathlib.Core.List.{List, _++_}
 use mathlib.Core.Path.{_≡_, sym, ap, _∙_}
 use native.Mathlib.Omega.{arith}
-use lib.ListN.{drop, replicate, length-replicate, replicate-append-replicate, take-append-drop}
+use lib.ListN.{length, drop, replicate, length-replicate, replicate-append-replicate}
 use lib.Seq.{drop-at}
 use Rattle.player_printing.specs.Printing.{pageLength, Printed}
-use Rattle.player_printing.proofs.Lines.{printed-part}
+use Rattle.player_printing.proofs.Lines.{printed-part, printed-whole}
 use Rattle.client_pages.specs.Spaced.{spaced}
 
 drop-same : (k n x : ℕ) → k ≤ n → drop k (replicate n x) ≡ replicate (n - k) x
@@ -19,8 +19,5 @@ drop-same k n x h =
 pub on-spaces : {line after : List ℕ} {n : ℕ} → Printed line (replicate pageLength 32) after n → after ≡ spaced line
 unfolding spaced
 on-spaces {line} {after} {n} p =
-    let few : n ≤ pageLength = omega (arith, printed-part p .0, p .long) in
-    sym (take-append-drop n after)
-    ∙ ap (λ (l : List ℕ). l ++ drop n after) (p .text)
-    ∙ ap (λ (l : List ℕ). line ++ l) (p .rest ∙ drop-same n pageLength 32 few)
-    ∙ ap (λ (k : ℕ). line ++ replicate (pageLength - k) 32) (p .count)
+    let few : length line ≤ pageLength = omega (arith, printed-part p .0, p .long, p .count) in
+    printed-whole p ∙ ap (λ (l : List ℕ). line ++ l) (drop-same (length line) pageLength 32 few)

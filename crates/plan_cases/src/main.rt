@@ -13,33 +13,43 @@ fn main() {
 }
 
 fn print_families() {
-    print_case(3, b"grid", b"3", b"", b"");
-    print_case(3, b"billiard", b"3", b"", b"");
-    print_case(3, b"plane", b"2", b"", b"");
-    print_case(5, b"levels", b"2", b"3", b"5");
-    print_case(5, b"levels", b"1", b"1", b"31");
+    print_one(b"grid", b"3");
+    print_one(b"billiard", b"3");
+    print_one(b"plane", b"2");
+    print_levels(b"2", b"3", b"5");
+    print_levels(b"1", b"1", b"31");
 }
 
 fn print_refusals() {
-    print_case(3, b"grid", b"0", b"", b"");
-    print_case(3, b"grid", b"6", b"", b"");
-    print_case(3, b"billiard", b"9", b"", b"");
-    print_case(3, b"plane", b"4", b"", b"");
-    print_case(5, b"levels", b"0", b"1", b"1");
-    print_case(5, b"levels", b"4", b"4", b"2");
-    print_case(5, b"levels", b"4294967296", b"4294967296", b"1");
-    print_case(3, b"grid", b"18446744073709551619", b"", b"");
+    print_one(b"grid", b"0");
+    print_one(b"grid", b"6");
+    print_one(b"billiard", b"9");
+    print_one(b"plane", b"4");
+    print_levels(b"0", b"1", b"1");
+    print_levels(b"4", b"4", b"2");
+    print_levels(b"4294967296", b"4294967296", b"1");
+    print_one(b"grid", b"18446744073709551619");
 }
 
 fn print_wrong_uses() {
     print_case(2, b"grid", b"", b"", b"");
     print_case(4, b"grid", b"3", b"3", b"");
-    print_case(3, b"grid", b"03", b"", b"");
-    print_case(3, b"grid", b"x", b"", b"");
-    print_case(3, b"cube", b"3", b"", b"");
+    print_one(b"grid", b"03");
+    print_one(b"grid", b"x");
+    print_one(b"cube", b"3");
     print_case(4, b"levels", b"2", b"3", b"");
-    print_case(5, b"levels", b"2", b"3", b"-5");
-    print_case(3, b"Grid", b"3", b"", b"");
+    print_levels(b"2", b"3", b"-5");
+    print_one(b"Grid", b"3");
+}
+
+// A name with one number.
+fn print_one(name: &[u8], number: &[u8]) {
+    print_case(3, name, number, b"", b"");
+}
+
+// Rows, bays and levels.
+fn print_levels(a: &[u8], b: &[u8], c: &[u8]) {
+    print_case(5, b"levels", a, b, c);
 }
 
 // A line as `stdout> plan grid 3`, and what the call prints.

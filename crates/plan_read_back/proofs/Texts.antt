@@ -3,7 +3,7 @@ use Prim.Native.Nat.{ℕ, zero, suc, _+_, _-_, _^_, _≤_, _<_}
 use mathlib.Core.Bool.{true, not}
 use mathlib.Core.List.{List, [], _∷_, _++_, append-nil, append-assoc}
 use mathlib.Core.Option.{some}
-use mathlib.Core.Path.{_≡_, refl, sym, ap, _∙_}
+use mathlib.Core.Path.{_≡_, refl, _∙_}
 use native.Mathlib.Numerals.{add-one}
 use native.Mathlib.Omega.{arith}
 use borrow.Author.Tests.{ne-eqb, lt-ltb, le-ltb}
@@ -25,7 +25,7 @@ use Rattle.model.proofs.Lawful.{kept-accepted}
 use Rattle.player_grammar.specs.Grammar.{meaningOf}
 use Rattle.player_text.specs.declared.Stage.the-variants.{Sets}
 use Rattle.player_text.specs.Player.{Text, outcome, counted, sizeIn, setIn, onSize, allGiven, onSet, onLine, start, transcript, output}
-use Rattle.player_text.proofs.Stages.{line-size, line-set, end-after-line}
+use Rattle.player_text.proofs.Stages.{line-size, line-set}
 use Rattle.plan_lines.specs.Lines.{sitesBytes, setBytes, sitesText, setText, setTexts, setupText}
 use Rattle.plan_read_back.specs.Ready.{ready}
 use Rattle.plan_read_back.proofs.Numbers.{Lacks}

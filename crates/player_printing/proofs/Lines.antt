@@ -4,7 +4,7 @@ use mathlib.Core.List.{List, _++_}
 use mathlib.Core.Path.{_≡_, sym, ap, _∙_}
 use native.Mathlib.Nat.{zero-add}
 use native.Mathlib.Omega.{arith}
-use lib.ListN.{length, take, drop, length-take}
+use lib.ListN.{length, take, drop, length-take, take-append-drop}
 use lib.Seq.{length-sets, sets-eq, take-append-seam, drop-append-seam}
 use Rattle.player_printing.specs.Printing.{Printed}
 use Rattle.player_bytes.specs.Wrote.{Wrote}
@@ -22,3 +22,11 @@ module _ {line page after : List ℕ} {r : ℕ} where
   printed-part p =
       let e : r ≡ length (take r after) = p .count ∙ ap length (sym (p .text)) in
       (omega (arith, length-take r after), e)
+
+  -- and the whole page
+  pub printed-whole : Printed line page after r → after ≡ line ++ drop (length line) page
+  printed-whole p =
+      sym (take-append-drop r after)
+      ∙ ap (λ (l : List ℕ). l ++ drop r after) (p .text)
+      ∙ ap (λ (l : List ℕ). line ++ l) (p .rest)
+      ∙ ap (λ (k : ℕ). line ++ drop k page) (p .count)

@@ -1,0 +1,2 @@
+-- A planned page, whole.
+pub mod Whole

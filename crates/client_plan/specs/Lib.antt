@@ -1,0 +1,2 @@
+-- The whole page of a planned grid.
+pub mod Whole
