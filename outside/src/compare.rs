@@ -110,7 +110,7 @@ pub fn compare(subject: &Subject, plan: &Plan) -> Result<bool, String> {
     }
 }
 
-fn lock<T>(mutex: &Mutex<T>) -> std::sync::MutexGuard<'_, T> {
+pub(crate) fn lock<T>(mutex: &Mutex<T>) -> std::sync::MutexGuard<'_, T> {
     mutex.lock().expect("no thread panics while it holds this")
 }
 

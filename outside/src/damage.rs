@@ -181,7 +181,7 @@ pub fn long_set_line(random: &mut Random, length: usize) -> Vec<u8> {
 }
 
 /// Where the numbers of a text are.
-fn numbers(text: &[u8]) -> Vec<std::ops::Range<usize>> {
+pub(crate) fn numbers(text: &[u8]) -> Vec<std::ops::Range<usize>> {
     let mut found = Vec::new();
     let mut start = None;
     for (place, byte) in text.iter().chain(b"\n").enumerate() {

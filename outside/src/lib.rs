@@ -1,4 +1,4 @@
-//! A second opinion on document 01 ("The show key") and request 2.1.
+//! A second opinion on document 01 ("The show key") and requests 2.1 and 2.2.
 //!
 //! * [`model`] is the paper itself, written from the paper alone: setup, the
 //!   families of request sets, one event, and the player of texts.
@@ -7,8 +7,11 @@
 //!   compares every byte; [`measure`] times both.
 //! * [`plan`] is the program that prints a family's sets, [`calls`] are words
 //!   to call it with, and [`plan_compare`] compares another one.
-//! * [`faults`] and [`plan_faults`] plant known faults, to see that the
-//!   comparers find them.
+//! * [`saved`] writes and reads the text of a state, [`state`] is the program
+//!   that saves and goes on, [`strange`] makes states that no run reaches,
+//!   [`state_calls`] are calls of it, and [`state_compare`] compares another.
+//! * [`faults`], [`plan_faults`] and [`state_faults`] plant known faults, to see
+//!   that the comparers find them.
 
 pub mod calls;
 pub mod census;
@@ -23,7 +26,14 @@ pub mod plan_compare;
 pub mod plan_faults;
 pub mod random;
 pub mod rigs;
+pub mod saved;
+pub mod saved_damage;
 pub mod schedule;
 pub mod shrink;
+pub mod state;
+pub mod state_calls;
+pub mod state_compare;
+pub mod state_faults;
+pub mod strange;
 pub mod subject;
 pub mod texts;

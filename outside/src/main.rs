@@ -1,4 +1,4 @@
-//! The commands: compare, play, plan, generate and measure.
+//! The commands: compare, play, plan, state, generate and measure.
 
 use std::fs;
 use std::io::{self, BufWriter, Read, Write};
@@ -14,6 +14,7 @@ use outside::plan_compare::compare_calls;
 use outside::random::Random;
 use outside::rigs::{self, Lists};
 use outside::schedule::{write_text, Schedule};
+use outside::state_compare::{self, compare_state};
 use outside::subject::Subject;
 
 const USAGE: &str = "\
@@ -21,6 +22,8 @@ outside compare PLAYER_BINARY [--seed S] [--texts N] [--seconds T] [--jobs J]
                               [--no-spent] [--timeout T] [--shrink-seconds T] [--folder F]
 outside play FILE|-
 outside plan PROGRAM [--script] [--timeout T]
+outside state PROGRAM [--script] [--seed S] [--rounds R] [--jobs J] [--no-spent]
+                      [--no-misshapen] [--timeout T] [--folder F]
 outside generate --family grid:3|billiard:7|plane:5|levels:2,3,5|full:31
                  --events K [--seed S] [--swell]
 outside measure PLAYER_BINARY [--events K] [--rounds R] [--seed S] ";
@@ -33,6 +36,7 @@ fn main() -> ExitCode {
         "compare" => compare_command(options),
         "play" => play_command(options),
         "plan" => plan_command(options),
+        "state" => state_command(options),
         "generate" => generate_command(options),
         "measure" => measure_command(options),
         _ => Err(format!("usage:\n{USAGE}")),
@@ -97,6 +101,23 @@ fn plan_command(mut options: Options) -> Result<bool, String> {
     let binary = options.word("the plan program's file")?;
     options.finish()?;
     compare_calls(&Subject::new(Path::new(&binary), patience)?, script)
+}
+
+fn state_command(mut options: Options) -> Result<bool, String> {
+    let script = options.flag("--script");
+    let plan = state_compare::Plan {
+        seed: options.value("--seed")?.unwrap_or_else(seed_of_the_moment),
+        rounds: options.value("--rounds")?.unwrap_or(if script { 80 } else { 1_000 }),
+        script,
+        spent: !options.flag("--no-spent"),
+        misshapen: !options.flag("--no-misshapen"),
+        jobs: options.value("--jobs")?.unwrap_or(2),
+        folder: options.value("--folder")?.unwrap_or_else(|| PathBuf::from(".")),
+    };
+    let patience = seconds(options.value("--timeout")?.unwrap_or(60));
+    let binary = options.word("the state program's file")?;
+    options.finish()?;
+    compare_state(&Subject::new(Path::new(&binary), patience)?, &plan)
 }
 
 fn generate_command(mut options: Options) -> Result<bool, String> {

@@ -4,6 +4,7 @@ use std::fs::{self, File};
 use std::io::{BufWriter, Write};
 use std::path::{Path, PathBuf};
 use std::process::{Command, Stdio};
+use std::sync::atomic::{AtomicUsize, Ordering};
 use std::time::{Duration, Instant};
 
 use crate::model::{play, Family};
@@ -11,17 +12,21 @@ use crate::random::Random;
 use crate::schedule::{write_text, Schedule};
 use crate::subject::Subject;
 
+/// How many folders this process has made.
+static FOLDERS: AtomicUsize = AtomicUsize::new(0);
+
 /// A folder for the texts and outputs, taken away at the end.
-struct Folder(PathBuf);
+pub(crate) struct Folder(PathBuf);
 
 impl Folder {
-    fn new() -> Result<Folder, String> {
-        let path = std::env::temp_dir().join(format!("outside-measure-{}", std::process::id()));
+    pub(crate) fn new(name: &str) -> Result<Folder, String> {
+        let (process, count) = (std::process::id(), FOLDERS.fetch_add(1, Ordering::Relaxed));
+        let path = std::env::temp_dir().join(format!("outside-{name}-{process}-{count}"));
         fs::create_dir_all(&path).map_err(|error| format!("{}: {error}", path.display()))?;
         Ok(Folder(path))
     }
 
-    fn file(&self, name: &str) -> PathBuf {
+    pub(crate) fn file(&self, name: &str) -> PathBuf {
         self.0.join(name)
     }
 }
@@ -35,7 +40,7 @@ impl Drop for Folder {
 /// Measures a tenth of the events, then all of them, on the plane of order 5.
 /// Gives whether all outputs were equal.
 pub fn measure(subject: &Subject, events: usize, rounds: usize, seed: u64) -> Result<bool, String> {
-    let folder = Folder::new()?;
+    let folder = Folder::new("measure")?;
     println!("plane of order 5, seed {seed}, best of {rounds} rounds, files in {}", folder.0.display());
     println!(
         "{:>9}  {:>12}  {:>12}  {:>10}  {:>10}  {:>6}  equal",

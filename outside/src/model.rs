@@ -1,7 +1,8 @@
 //! Document 01, written out plainly.
 //!
-//! The player's text cannot make a misshapen state, so the check for one
-//! (code 10) is left out; everything else of the paper is here.
+//! The player's text cannot make a misshapen state, so [`Rig::apply`] leaves
+//! out the check for one (code 10). A saved text can: [`Rig::apply_judged`] has
+//! the check.
 
 pub mod desk;
 pub mod families;
@@ -10,13 +11,14 @@ pub mod message;
 pub mod player;
 pub mod rig;
 pub mod setup;
+pub mod shape;
 pub mod turn;
 
 pub use desk::{Arbiter, Claim, Desk, Mode, Tie};
 pub use families::Family;
 pub use grammar::Event;
 pub use message::{Body, Message};
-pub use player::{play, play_with};
+pub use player::{go_on, go_on_with, last_state, play, play_with, Stop};
 pub use rig::{Change, Rig};
 
 /// The number of a site, from 1. Texts may also name sites that do not exist.
@@ -54,12 +56,16 @@ pub enum Refusal {
     ListFull = 8,
     /// The events are spent, or a number would pass its limit.
     Spent = 9,
+    /// The state is misshapen.
+    Misshapen = 10,
     /// A line is malformed, at the wrong place, or lacking.
     Malformed = 11,
     /// A family has no such parameter.
     Parameter = 12,
     /// A lent buffer has the wrong length.
     Buffer = 13,
+    /// A text that no state gives (request 2.2).
+    NoSavedText = 14,
 }
 
 impl Refusal {

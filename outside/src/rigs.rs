@@ -17,13 +17,28 @@ pub fn any_family(random: &mut Random) -> Lists {
 /// Random sets of which every two meet.
 pub fn meeting(random: &mut Random) -> Lists {
     let n = any_size(random);
-    match random.below(6) {
+    match random.below(WAYS + 1) {
+        WAYS => thinned(random),
+        way => meeting_by(random, n, way),
+    }
+}
+
+/// Random sets of `n` sites of which every two meet.
+pub fn meeting_of_size(random: &mut Random, n: usize) -> Lists {
+    let way = random.below(WAYS);
+    meeting_by(random, n, way)
+}
+
+/// The ways to make meeting sets of any number of sites.
+const WAYS: usize = 5;
+
+fn meeting_by(random: &mut Random, n: usize, way: usize) -> Lists {
+    match way {
         0 => around_a_centre(random, n),
         1 => majorities(random, n),
         2 => full(n),
         3 => all_equal(random, n),
-        4 => small_then_mended(random, n),
-        _ => thinned(random),
+        _ => small_then_mended(random, n),
     }
 }
 

@@ -98,20 +98,13 @@ impl Subject {
             .spawn()
             .map_err(problem)?;
         let (ended, end) = mpsc::channel();
-        let mut input = child.stdin.take().expect("it was piped");
+        let input = child.stdin.take().expect("it was piped");
         let printed = child.stdout.take().expect("it was piped");
         // No right output is longer; a player that prints on is cut off.
         let lines = text.iter().filter(|&&byte| byte == b'\n').count();
         let printed = printed.take(100 * (lines as u64 + 2));
         thread::scope(|scope| {
-            scope.spawn(move || {
-                // A player that stops early may close its input: no fault.
-                for piece in text.chunks(piece.max(1)) {
-                    if input.write_all(piece).is_err() {
-                        break;
-                    }
-                }
-            });
+            scope.spawn(move || write_pieces(input, text, piece));
             let reader = scope.spawn(move || all_of(printed, &ended));
             let in_time = end.recv_timeout(self.patience).is_ok();
             let ending = end_child(&mut child, in_time).map_err(problem)?;
@@ -123,20 +116,35 @@ impl Subject {
 
     /// Calls it with these words and nothing on its standard input.
     pub fn call(&self, words: &[Vec<u8>]) -> Result<Called, String> {
+        self.exchange(words, b"", usize::MAX, LONGEST_ANSWER)
+    }
+
+    /// Calls it with these words and this on its standard input, written in
+    /// pieces of the given size. So many bytes of its output are read; one that
+    /// prints more is cut off.
+    pub fn exchange(
+        &self,
+        words: &[Vec<u8>],
+        input: &[u8],
+        piece: usize,
+        most: u64,
+    ) -> Result<Called, String> {
         let problem = |error| format!("{}: {error}", self.binary.display());
         let mut child = Command::new(&self.binary)
             .args(words.iter().map(|word| OsStr::from_bytes(word)))
             .envs(self.environment.iter().cloned())
-            .stdin(Stdio::null())
+            .stdin(Stdio::piped())
             .stdout(Stdio::piped())
             .stderr(Stdio::piped())
             .spawn()
             .map_err(problem)?;
-        let output = child.stdout.take().expect("it was piped").take(LONGEST_ANSWER);
-        let errors = child.stderr.take().expect("it was piped").take(LONGEST_ANSWER);
+        let given = child.stdin.take().expect("it was piped");
+        let output = child.stdout.take().expect("it was piped").take(most);
+        let errors = child.stderr.take().expect("it was piped").take(most);
         let (ended, end) = mpsc::channel();
         thread::scope(|scope| {
             let ended_too = ended.clone();
+            scope.spawn(move || write_pieces(given, input, piece));
             let output = scope.spawn(move || all_of(output, &ended));
             let errors = scope.spawn(move || all_of(errors, &ended_too));
             let in_time = (0..2).all(|_| end.recv_timeout(self.patience).is_ok());
@@ -145,6 +153,16 @@ impl Subject {
             let errors = errors.join().expect("the reader does not panic").map_err(problem)?;
             Ok(Called { output, errors, ending })
         })
+    }
+}
+
+/// Writes a text in pieces. A program that stops early may close its input: no
+/// fault.
+fn write_pieces(mut input: impl Write, text: &[u8], piece: usize) {
+    for piece in text.chunks(piece.max(1)) {
+        if input.write_all(piece).is_err() {
+            break;
+        }
     }
 }
 

@@ -6,7 +6,7 @@ use mathlib.Core.Bool.{Bool, true, false}
 use mathlib.Core.List.{List, [], _∷_, _++_, map, append-assoc}
 use mathlib.Core.Option.{some}
 use native.Mathlib.Omega.{arith}
-use lib.ListN.{length, take, getD, set, replicate}
+use lib.ListN.{length, take, drop, getD, set, replicate}
 use lib.Seq.{take-suc, set-at, length-take-le}
 use Rattle.basics.specs.Helpers.{tally, first, withoutFirst}
 use Rattle.basics.proofs.Basics.{by-bool}
@@ -139,6 +139,11 @@ take-map f (suc n) [] = refl
 take-map f (suc n) (x ∷ xs) = ap (λ ys. f x ∷ ys) (take-map f n xs)
 
 -- the first i entries and zeros behind them: one entry more, in the place of a 0
+pub drop-map : {A B : Type 0} (f : A → B) (n : ℕ) (xs : List A) → drop n (map f xs) ≡ map f (drop n xs)
+drop-map f zero xs = refl
+drop-map f (suc n) [] = refl
+drop-map f (suc n) (x ∷ xs) = drop-map f n xs
+
 pub padded-more : (xs : List ℕ) (i m : ℕ) → i < length xs → set (take i xs ++ replicate (suc m) 0) i (getD xs i 0) ≡ take (suc i) xs ++ replicate m 0
 padded-more xs i m h =
     set-at (take i xs) 0 (replicate m 0) (getD xs i 0) i (length-take-le i xs (omega arith))

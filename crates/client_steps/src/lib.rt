@@ -12,7 +12,7 @@ use rig::Message;
 use rig::Rig;
 use rig::Tables;
 ghost use mathlib.Core.Path.{_≡_};
-ghost use mathlib.Core.Bool.{true};
+ghost use mathlib.Core.Bool.{true, false};
 ghost use lib.ListN.{replicate};
 ghost use Rattle.rig.specs.Limits.{sentLimit};
 ghost use Rattle.model.specs.Shape.{wellShaped};
@@ -48,7 +48,7 @@ pub fn play_stretch(
     text: &[u8],
     out: &mut [u8],
 ) -> Ending
-    requires { ⌜ PlayerFits p (now tables) (now list) × (p .stage ≡ Events) ⌝ }
+    requires { ⌜ PlayerFits p (now tables) (now list) × (p .stage ≡ Events) × (p .tested ≡ false) ⌝ }
     ensures { λ r. ⌜ EndsAt (now (text .entry)) (now (out .entry)) r ⌝ }
 {
     let stretch = play_events(p, tables, list, text, 0, out, 0);

@@ -69,6 +69,13 @@ rows-past n ys =
     (pasted-blank 0 zeroRows (map rowOf ys) n (omega (arith, p .1)) (rw length-map (omega (arith, p .0, p .1))) (blank-past 0))))
     (λ a. rw a (blank-past n))
 
+-- the rows read from a list of full length say which of its messages are under way
+pub same-read : (n : ℕ) (ys : List Message) (blank before : List (List ℕ)) → blank ≡ zeroRows → before ≡ paste blank 0 (map rowOf ys) (readOf (listCode n (length ys)) n)
+    → length ys ≡ messageLimit → n ≤ messageLimit → take n (map messageOf before) ≡ take n ys
+same-read n ys blank before p q f k =
+    let all : readOf (listCode n (length ys)) n ≡ n = rw (eq-eqb (length ys) messageLimit f, le-ltb messageLimit n k) in
+    rw (q, p, all) (read-rows ys n (omega arith) k)
+
 pub zero-past : (n : ℕ) (ys : List Message) (blank before : List (List ℕ)) → blank ≡ zeroRows → before ≡ paste blank 0 (map rowOf ys) (readOf (listCode n (length ys)) n) → ZeroPast n before
 zero-past n ys blank before p q = rw (q, p) (rows-past n ys)
 
@@ -82,9 +89,7 @@ module _ (g : Rig) (ts : List (List (List ℕ))) (ys : List Message) (n : ℕ) (
   module _ (blank-is : blank ≡ zeroRows) (before-is : before ≡ paste blank 0 (map rowOf ys) read)
       (said : M.answer (r .code) (in-rows (r .rig) ts′ after (r .count)) ≡ testedWith (listCode n (length ys)) (in-rows g ts before n) e) where
     same : length ys ≡ messageLimit → n ≤ messageLimit → take n (map messageOf before) ≡ take n ys
-    same f k =
-        let all : read ≡ n = rw (eq-eqb (length ys) messageLimit f, le-ltb messageLimit n k) in
-        rw (before-is, blank-is, all) (read-rows ys n (omega arith) k)
+    same = same-read n ys blank before blank-is before-is
 
     code-is : r .code ≡ testedWith (listCode n (length ys)) (in-rows g ts before n) e .code
     code-is = ap (λ (a : M.Answer). a .code) said

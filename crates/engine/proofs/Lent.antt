@@ -74,11 +74,11 @@ module _ {A : Type 0} (test : A → Bool) where
       rw e (s .2)
 
 -- no message is rewritten
-kept : (L s : List Message) → paste L (length L) s (length L - length L) ≡ L
+pub kept : (L s : List Message) → paste L (length L) s (length L - length L) ≡ L
 kept L s = let z : length L - length L ≡ 0 = omega arith in rw z (sym (paste-zero L (length L) s))
 
 -- all messages from a place on are rewritten
-rejoined : (L next : List Message) (place : ℕ) → place ≤ length L → length next ≡ length L → take place next ≡ take place L
+pub rejoined : (L next : List Message) (place : ℕ) → place ≤ length L → length next ≡ length L → take place next ≡ take place L
     → paste L place (drop place next) (length L - place) ≡ next
 rejoined L next place fits long e =
     let a : place + (length L - place) ≡ length L = omega arith in
@@ -174,6 +174,16 @@ module _ (d : Desk) (L : List Message) (n : ℕ) (fits : n ≤ length L) where
   attempt-leaves (Leave s) = one-leaves L _ (isInside (d .site .mode)) _ _ (all-stay _ (place-within (between 0 0) L n n (omega arith) _ refl)) refl
   attempt-leaves (Deliver a b) = taken-leaves (between a b) (firstIn a b (take n L)) refl (first (between a b) (take n L)) refl
 
+-- no state has too many messages under way
+pub too-many-shaped : (s : Stored) → leb (s .count) messageLimit ≡ false → wellShaped s ≡ false
+unfolding wellShaped
+too-many-shaped s a = rw a
+
+-- the shape of a state depends on those messages of its list that are under way
+pub shaped-same : (t : Tables) (L l : List Message) (n : ℕ) → take n l ≡ take n L → wellShaped (record { tables = t; list = l; count = n }) ≡ wellShaped (record { tables = t; list = L; count = n })
+unfolding wellShaped
+shaped-same t L l n u = rw u
+
 module _ (t : Tables) (L l : List Message) (n : ℕ) (e : Event) where
   abbrev whole : Stored
   whole = record { tables = t; list = L; count = n }
@@ -210,8 +220,8 @@ module _ (t : Tables) (L l : List Message) (n : ℕ) (e : Event) where
 
   -- 10, where the count is too large
   too-many : (s : Stored) → leb (s .count) messageLimit ≡ false → M.tested s e ≡ M.answer 10 s
-  unfolding M.tested wellShaped
-  too-many s a = rw a
+  unfolding M.tested
+  too-many s a = rw (too-many-shaped s a)
 
   -- 13 for both lists, and else what the tests say
   wrong-length : eqb (length L) messageLimit ≡ false → (told ≡ M.answer 13 copy) × (M.event whole e ≡ M.answer 13 whole)
@@ -227,10 +237,6 @@ module _ (t : Tables) (L l : List Message) (n : ℕ) (e : Event) where
     rw a,
   )
 
-  shaped-same : take n l ≡ take n L → wellShaped copy ≡ wellShaped whole
-  unfolding wellShaped
-  shaped-same u = rw u
-
   module _ (same : length L ≡ messageLimit → n ≤ messageLimit → take n l ≡ take n L) where
     tested-same : length L ≡ messageLimit → rewritten L place t l n (M.tested copy e) ≡ M.tested whole e
     unfolding M.tested M.played
@@ -240,9 +246,9 @@ module _ (t : Tables) (L l : List Message) (n : ℕ) (e : Event) where
         let low = place-low in
         let u = same full k in
         by-bool (wellShaped whole)
-        (λ b. rw (shaped-same u, b, u)
+        (λ b. rw (shaped-same t L l n u, b, u)
         (settled-same L place t l n full (omega arith) (M.actor e) _ (event-fits L place (t .rig .accepted) (deskOf t (M.actor e)) (take n L) e (place-leaves _ full k))))
-        (λ b. rw (shaped-same u, b) (turned-down L place t l n 10 refl)))
+        (λ b. rw (shaped-same t L l n u, b) (turned-down L place t l n 10 refl)))
         (λ a. rw (too-many copy a, too-many whole a) (turned-down L place t l n 10 refl))
 
     -- an event is accepted only where the count is at most 1,024

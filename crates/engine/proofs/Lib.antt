@@ -1,3 +1,4 @@
 -- Laws that belong to no one function.
+pub mod Callees
 pub mod Joined
 pub mod Lent

@@ -5,7 +5,7 @@ use mathlib.Core.List.{List, [], _∷_, _++_, map, map-append}
 use native.Mathlib.Omega.{arith}
 use lib.ListN.{length, getD, take, drop, length-take}
 use lib.Seq.{getD-take}
-use Rattle.basics.proofs.Lists.{take-map}
+use Rattle.basics.proofs.Lists.{take-map, drop-map}
 use Rattle.rig.specs.declared.Desk.{Desk}
 use Rattle.rig.specs.declared.Event.the-variants.{Deliver}
 use Rattle.model.specs.Event.{takenOff, attempt, blankMessage}
@@ -22,11 +22,6 @@ by-found (At i) x y = x i refl
 by-found Nowhere x y = y refl
 
 module _ {A B : Type 0} (f : A → B) where
-  map-drop : (n : ℕ) (xs : List A) → map f (drop n xs) ≡ drop n (map f xs)
-  map-drop zero xs = refl
-  map-drop (suc n) [] = refl
-  map-drop (suc n) (x ∷ xs) = map-drop n xs
-
   map-at : (xs : List A) (i : ℕ) (a : A) (b : B) → i < length xs → getD (map f xs) i b ≡ f (getD xs i a)
   map-at [] i a b h = absurd (omega arith)
   map-at (x ∷ xs) zero a b h = refl
@@ -35,7 +30,7 @@ module _ {A B : Type 0} (f : A → B) where
 -- the message at a place, and the others
 module _ (n : ℕ) (rows : List (List ℕ)) (place : ℕ) where
   pub others-at : take place (messagesIn n rows) ++ drop (suc place) (messagesIn n rows) ≡ staying n place rows
-  others-at = sym (map-append messageOf (take place (take n rows)) (drop (suc place) (take n rows)) ∙ rw (← take-map messageOf place (take n rows), map-drop messageOf (suc place) (take n rows)))
+  others-at = sym (map-append messageOf (take place (take n rows)) (drop (suc place) (take n rows)) ∙ rw (← take-map messageOf place (take n rows), ← drop-map messageOf (suc place) (take n rows)))
 
 module _ (a b n : ℕ) (rows : List (List ℕ)) (i : ℕ) (found : foundIn a b (take n rows) ≡ At i) where
   pub message-at : getD (messagesIn n rows) i blankMessage ≡ messageOf (getD rows i [])

@@ -75,7 +75,7 @@ pub fn event(
     e: Event,
 ) -> Answer
     requires { ⌜ (code ≡ 0 → count ≤ messageLimit) × ZeroPast count (now list) ⌝ }
-    ensures { λ r. ⌜ after r tables list ≡ testedWith code (before rig tables list count) e ⌝ }
+    ensures { λ r. ⌜ (after r tables list ≡ testedWith code (before rig tables list count) e) × ZeroPast (r .count) (now (list .exit)) ⌝ }
 {
     if code != 0 {
         return Answer::refused(code, rig, count);

@@ -34,7 +34,7 @@ decimal-short n h =
     rw (m .shown, one-digit (m .fewer) (n / 10) (omega arith)) (omega arith))
 
 -- a list of numbers has bytes, and one more number stands behind a comma
-list-some : (n : ℕ) (ns : List ℕ) → 1 ≤ length (listText (n ∷ ns))
+pub list-some : (n : ℕ) (ns : List ℕ) → 1 ≤ length (listText (n ∷ ns))
 unfolding listText
 list-some n [] = decimal-some n
 list-some n (m ∷ ns) = simp length-append (omega arith)
@@ -48,7 +48,7 @@ list-behind n (k ∷ ns) m = rw (list-behind k ns m, append-assoc)
 abbrev pub added : ℕ → ℕ → ℕ → List ℕ
 added next first m = cond (eqb next first) (decimal m) (44 ∷ decimal m)
 
-list-more : (ns : List ℕ) (next first m : ℕ) → next ≡ first + length (listText ns) → listText (ns ++ (m ∷ [])) ≡ listText ns ++ added next first m
+pub list-more : (ns : List ℕ) (next first m : ℕ) → next ≡ first + length (listText ns) → listText (ns ++ (m ∷ [])) ≡ listText ns ++ added next first m
 unfolding listText
 list-more [] next first m h = rw (eq-eqb next first (omega arith))
 list-more (n ∷ ns) next first m h =

@@ -52,7 +52,7 @@ numbers-read n (m ∷ ns) h =
     rw (parts-comma (decimal n) (listText (m ∷ ns)) (decimal-lacks 44 n (omega arith)), number-read n (h .0), numbers-read m ns (h .1))
 
 -- the members of a set: the sites 1 to i at most
-members-within : (set i : ℕ) → All (λ m. m ≤ i) (membersUpTo set i)
+pub members-within : (set i : ℕ) → All (λ m. m ≤ i) (membersUpTo set i)
 unfolding membersUpTo All
 members-within set zero = tt
 members-within set (suc i) =
@@ -125,7 +125,7 @@ set-read set h =
     (members-set set siteLimit (omega arith) ∙ mod-eq-of-lt (names-below siteLimit set h)))
 
 -- Neither line has a byte 10.
-list-one-line : (ns : List ℕ) → Lacks 10 (listText ns)
+pub list-one-line : (ns : List ℕ) → Lacks 10 (listText ns)
 unfolding listText All
 list-one-line [] = tt
 list-one-line (n ∷ []) = decimal-lacks 10 n (omega arith)

@@ -50,7 +50,7 @@ digits-digits (suc k) n =
     (λ e. rw e (digits-snoc [] (48 + n % 10) refl (last-digit n)))
     (λ e. rw e (digits-snoc (digits k (n / 10)) (48 + n % 10) (digits-digits k (n / 10)) (last-digit n)))
 
-decimal-digits : (n : ℕ) → allDigits (decimal n) ≡ true
+pub decimal-digits : (n : ℕ) → allDigits (decimal n) ≡ true
 unfolding decimal
 decimal-digits n = digits-digits 20 n
 
@@ -70,7 +70,7 @@ digits-lack c l (b ∷ bs) h =
 pub decimal-lacks : (c n : ℕ) → c < 48 → Lacks c (decimal n)
 decimal-lacks c n l = digits-lack c l (decimal n) (decimal-digits n)
 
-digits-value : (k n : ℕ) → n < 10 ^ k → value 0 (digits k n) ≡ n
+pub digits-value : (k n : ℕ) → n < 10 ^ k → value 0 (digits k n) ≡ n
 unfolding digits value
 digits-value zero n h = omega arith
 digits-value (suc k) n h =

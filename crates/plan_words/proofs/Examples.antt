@@ -4,7 +4,8 @@ use mathlib.Core.Path.{_≡_, refl}
 use lib.ListN.{replicate}
 use Rattle.player_numbers.specs.Numbers.{allDigits, noLeadingZero, value}
 use Rattle.families.specs.declared.Family.the-variants.{Grid, Billiard, Plane, Levels}
-use Rattle.plan_words.specs.Words.{largest, parameter, same, gridWord, billiardWord, planeWord, levelsWord, ofOne, ofThree, askedBy}
+use Rattle.player_bytes.specs.Same.{same}
+use Rattle.plan_words.specs.Words.{largest, parameter, gridWord, billiardWord, planeWord, levelsWord, ofOne, ofThree, askedBy}
 use Rattle.plan_words.specs.declared.Asked.the-variants.{For, Wrong}
 
 -- `grid 3`, `billiard 7`, `plane 10`, `levels 2 3 5`, `grid 0`

@@ -1,8 +1,9 @@
 -- Request 2.1, "a program that prints a family": what its words ask. "A wrong word, a number that is none or too many of them print how to use it."
 use Prim.Native.Nat.{ℕ, min}
-use mathlib.Core.Bool.{Bool, true, false, _&&_, cond}
+use mathlib.Core.Bool.{_&&_, cond}
 use mathlib.Core.List.{List, [], _∷_}
 use lib.Dec.{eqb}
+use Rattle.player_bytes.specs.Same.{same}
 use Rattle.player_numbers.specs.declared.Number.{Number}
 use Rattle.player_numbers.specs.declared.Number.the-variants.{Of, Nothing}
 use Rattle.player_numbers.specs.Numbers.{allDigits, noLeadingZero, value}
@@ -18,13 +19,6 @@ largest = 18_446_744_073_709_551_615
 -- is read as that one, which no family lists.
 unfoldable pub parameter : List ℕ → Number
 parameter bs = cond (noLeadingZero bs && allDigits bs) (Of (min (value 0 bs) largest)) Nothing
-
--- the same bytes
-unfoldable pub same : List ℕ → List ℕ → Bool
-same [] [] = true
-same [] (y ∷ ys) = false
-same (x ∷ xs) [] = false
-same (x ∷ xs) (y ∷ ys) = eqb x y && same xs ys
 
 -- `grid`, `billiard`, `plane`, `levels`
 abbrev pub gridWord : List ℕ

@@ -1,5 +1,6 @@
 // What the words of a command ask: `grid 3`, `billiard 7`, `plane 5`, `levels 2 3 5`.
 use families::Family;
+use player_bytes::same_bytes;
 use player_numbers::Number;
 use player_numbers::is_digit;
 use player_numbers::no_leading_zero;
@@ -7,7 +8,7 @@ ghost use Prim.Native.Nat.{_+_, _-_, _*_, min};
 ghost use mathlib.Core.Bool.{true};
 ghost use mathlib.Core.Path.{_≡_};
 ghost use Rattle.player_numbers.specs.Numbers.{isDigit};
-ghost use Rattle.plan_words.specs.Words.{largest, parameter, same, ofOne, ofThree, askedBy};
+ghost use Rattle.plan_words.specs.Words.{largest, parameter, ofOne, ofThree, askedBy};
 
 // What is asked: a family, or nothing, where the words are wrong.
 pub enum Asked {
@@ -67,21 +68,6 @@ fn of_three(name: &[u8], a: Number, b: Number, c: Number) -> Asked
         return Asked::For(Family::Levels(rows, bays, levels));
     }
     Asked::Wrong
-}
-
-// Whether two words are the same bytes.
-fn same_bytes(x: &[u8], y: &[u8]) -> bool
-    ensures { λ r. ⌜ r ≡ same (now (x .entry)) (now (y .entry)) ⌝ }
-{
-    if x.len() != y.len() {
-        return false;
-    }
-    for i in 0..x.len() {
-        if x[i] != y[i] {
-            return false;
-        }
-    }
-    true
 }
 
 // The number that a word is, of any value: above the largest number of 64 bits it is that one.

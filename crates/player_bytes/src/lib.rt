@@ -1,9 +1,10 @@
-// Words and numbers as bytes, from a place of a lent page on.
+// Words and numbers as bytes, from a place of a lent page on; bytes compared.
 ghost use Prim.Native.Nat.{_+_, _%_, _≤_};
 ghost use mathlib.Core.List.{_++_};
 ghost use mathlib.Core.Path.{_≡_};
 ghost use lib.ListN.{length};
 ghost use Rattle.player_bytes.specs.Decimal.{decimal};
+ghost use Rattle.player_bytes.specs.Same.{same};
 ghost use Rattle.player_bytes.specs.Wrote.{Wrote};
 
 // The last digit of n.
@@ -28,7 +29,7 @@ fn places(n: u64) -> usize
 
 // An inner call: the number n in decimal, from place `at` on, the last digit first; answers the place behind it.
 pub fn put_decimal(page: &mut [u8], at: usize, n: u64) -> usize
-    requires { ⌜ at + 20 ≤ length (now page) ⌝ }
+    requires { ⌜ at + length (decimal n) ≤ length (now page) ⌝ }
     ensures { λ r. ⌜ Wrote (decimal n) at (now (page .entry)) (now (page .exit)) r ⌝ }
 {
     let end = at + places(n);
@@ -62,4 +63,19 @@ pub fn put_field(page: &mut [u8], at: usize, word: &[u8], n: u64) -> usize
 {
     let next = put_word(page, at, word);
     put_decimal(page, next, n)
+}
+
+// Whether two words are the same bytes.
+pub fn same_bytes(x: &[u8], y: &[u8]) -> bool
+    ensures { λ r. ⌜ r ≡ same (now (x .entry)) (now (y .entry)) ⌝ }
+{
+    if x.len() != y.len() {
+        return false;
+    }
+    for i in 0..x.len() {
+        if x[i] != y[i] {
+            return false;
+        }
+    }
+    true
 }

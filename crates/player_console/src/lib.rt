@@ -2,6 +2,7 @@
 // to the player as it comes, in buffers of a fixed size.
 use libc::STDOUT_FILENO;
 use player_playing::Played;
+use player_playing::Playing;
 use player_playing::begin;
 use player_playing::finish;
 use player_playing::is_over;
@@ -9,14 +10,15 @@ use player_playing::part;
 use player_printing::PAGE_LENGTH;
 ghost use Prim.Native.Nat.{_≤_};
 ghost use lib.ListN.{length};
+ghost use Rattle.player_playing.specs.State.{PlayingFits};
 
 // How many bytes are read at once, and how many are written at once.
 const INPUT: usize = 8_192;
 
 const OUTPUT: usize = 32_768;
 
-// Reads at most `room` bytes; answers how many came, 0 at the end of the input.
-fn read_some(fd: i32, input: &mut [u8], room: usize) -> usize
+// An inner call: reads at most `room` bytes; answers how many came, 0 at the end of the input.
+pub fn read_some(fd: i32, input: &mut [u8], room: usize) -> usize
     requires { ⌜ room ≤ length (now input) ⌝ }
     ensures { λ r. ⌜ r ≤ room ⌝ }
 {
@@ -25,7 +27,7 @@ fn read_some(fd: i32, input: &mut [u8], room: usize) -> usize
 }
 
 // How many bytes are read at once: `room`, or the whole buffer of `len` bytes where that is none of 1 to `len`.
-fn read_room(room: usize, len: usize) -> usize
+pub fn read_room(room: usize, len: usize) -> usize
     ensures { λ r. ⌜ r ≤ len ⌝ }
 {
     if room == 0 {
@@ -37,14 +39,16 @@ fn read_room(room: usize, len: usize) -> usize
     room
 }
 
-// Plays the text that `fd` gives, read in pieces of at most `room` bytes. Its turns are counted down from a number that no run uses up, since
-// a proved loop has to end. The parts of a piece are played in the same function: the state is large, and a call would copy it.
-pub fn play_from(fd: i32, room: usize) {
+// An inner call: plays the text that `fd` gives, from a state of the player on, read in pieces of at most `room` bytes. Its turns are counted down
+// from a number that no run uses up, since a proved loop has to end. The parts of a piece are played in the same function: the state is
+// large, and a call would copy it.
+pub fn play_on(first: Playing, fd: i32, room: usize)
+    requires { ⌜ PlayingFits first ⌝ }
+{
     let mut input = [0u8; INPUT];
     let mut output = [0u8; OUTPUT];
     let mut page = [0u8; PAGE_LENGTH];
     let most = read_room(room, INPUT);
-    let first = begin();
     let mut r = Played {
         playing: first,
         taken: 0,
@@ -72,4 +76,9 @@ pub fn play_from(fd: i32, room: usize) {
         }
         turns = turns - 1;
     }
+}
+
+// Plays the text that `fd` gives, from its first line on.
+pub fn play_from(fd: i32, room: usize) {
+    play_on(begin(), fd, room);
 }

@@ -1,6 +1,7 @@
 -- What holds at each turn of the loop: before the first, after an event, and where the loop ends.
 use Prim.Native.Nat.{ℕ, _+_, _-_, _≤_, _<_}
 use mathlib.Core.Path.{_≡_, refl, _∙_}
+use mathlib.Core.Bool.{false}
 use mathlib.Core.List.{List}
 use mathlib.Core.Logic.{inl, inr}
 use mathlib.Core.Option.{none, some}
@@ -10,9 +11,9 @@ use Rattle.rig.specs.declared.Event.{Event}
 use Rattle.rig.specs.declared.Rig.{Rig}
 use Rattle.rig.specs.Limits.{siteLimit, eventLimit}
 use Rattle.model.specs.Event.{actor, eventAt}
-use Rattle.model.specs.Run.{InRun, waitingCount}
+use Rattle.model.specs.Run.{waitingCount}
 use Rattle.model.specs.Printed.{insideUpTo}
-use Rattle.model.proofs.OfRun.{run-shaped}
+use Rattle.model_shaped.specs.Kept.{Playable}
 use Rattle.list_rows.specs.Rows.{ZeroPast}
 use Rattle.list_rows.specs.State.{stored}
 use Rattle.event_sites.specs.Places.{placeOf, countedOn}
@@ -32,11 +33,12 @@ use Rattle.player_events.specs.declared.Stretch.{Stretch}
 use Rattle.player_next.specs.Lines.{between, LineTo}
 use Rattle.player_events.specs.Stretches.{playerAt, Plays, Stops, Ends, Stretches}
 use Rattle.player_events.proofs.Reading.{plays-line, plays-nothing, wrote-long}
-use Rattle.player_events.proofs.Turns.{event-line, event-run, other-line}
+use Rattle.player_events.proofs.Turns.{event-line, event-playable, other-line}
 
 pub record Going (p : Player) (ts₀ : List (List (List ℕ))) (rows₀ : List (List ℕ)) (bytes : List ℕ) (from : ℕ) (out₀ : List ℕ) (at : ℕ) (ts : List (List (List ℕ))) (rows : List (List ℕ)) (out : List ℕ) (g : Rig) (n step line i w read to : ℕ) : Type 0 where
   pub plays : Plays (text p ts₀ rows₀) (between from read bytes) (text (playerAt p line step g n) ts rows) at out₀ out to
-  pub run : InRun (stored g ts rows n)
+  pub quick : p .tested ≡ false
+  pub playable : Playable (stored g ts rows n)
   pub zeros : ZeroPast n rows
   pub inside : i ≡ insideUpTo g (g .size)
   pub waiting : w ≡ waitingCount g
@@ -46,14 +48,16 @@ pub record Going (p : Player) (ts₀ : List (List (List ℕ))) (rows₀ : List (
   pub long : length out ≡ length out₀
 
 module _ {p : Player} {ts : List (List (List ℕ))} {rows : List (List ℕ)} {bytes out : List ℕ} {from at i w : ℕ} where
-  pub begins : PlayerFits p ts rows → p .stage ≡ Events → from ≤ length bytes → at ≤ length out
+  pub begins : PlayerFits p ts rows → p .stage ≡ Events → p .tested ≡ false → from ≤ length bytes → at ≤ length out
       → i ≡ insideUpTo (p .rig) (p .rig .size) → w ≡ waitingCount (p .rig)
       → Going p ts rows bytes from out at ts rows out (p .rig) (p .count) (p .step) (p .line) i w from at
-  begins f e low room a b =
+  begins f e q low room a b =
       let h : HoldsAt Events p ts rows = rw e at (f .fits) in
+      let playable : Playable (stored (p .rig) ts rows (p .count)) = rw q at (h .0) in
       record {
         plays = plays-nothing (text p ts rows) _ bytes out from at (rw e);
-        run = h .0;
+        quick = q;
+        playable = playable;
         zeros = h .1;
         inside = a;
         waiting = b;
@@ -66,13 +70,13 @@ module _ {p : Player} {ts : List (List (List ℕ))} {rows : List (List ℕ)} {by
 module _ {p : Player} {ts₀ ts : List (List (List ℕ))} {rows₀ rows : List (List ℕ)} {bytes out₀ out : List ℕ} {g : Rig} {from at n step line i w read to : ℕ}
     (go : Going p ts₀ rows₀ bytes from out₀ at ts rows out g n step line i w read to) where
   pub turn-ready : (k : ℕ) → SiteReady (deskFrom g ts k (placeOf (g .size) k)) n rows
-  turn-ready k = ready g ts k rows n (run-shaped (go .run .run)) (go .zeros)
+  turn-ready k = ready g ts k rows n (go .playable .shaped) (go .zeros)
 
   pub turn-size : g .size ≤ siteLimit
-  turn-size = size-high g ts 0 rows n (run-shaped (go .run .run))
+  turn-size = size-high g ts 0 rows n (go .playable .shaped)
 
   pub turn-accepted : g .accepted ≤ eventLimit
-  turn-accepted = accepted-high g ts 0 rows n (run-shaped (go .run .run))
+  turn-accepted = accepted-high g ts 0 rows n (go .playable .shaped)
 
   -- an event's line
   module _ (e : Event) {end : ℕ} (found : LineTo end read bytes) (is : eventIn (meaningOf (between read end bytes)) ≡ some e)
@@ -94,8 +98,9 @@ module _ {p : Player} {ts₀ ts : List (List (List ℕ))} {rows₀ rows : List (
         let first = found .first in
         let within = found .within in
         record {
-          plays = plays-line found from (go .plays) (go .low) _ _ (event-line p line step g n ts rows (between read end bytes) e nextRig (r .count) (r .code) ts′ rows′ (go .run) s is a b c d) wrote;
-          run = event-run p line step g n ts rows (between read end bytes) e nextRig (r .count) (r .code) ts′ rows′ (go .run) s;
+          plays = plays-line found from (go .plays) (go .low) _ _ (event-line p line step g n ts rows (between read end bytes) e nextRig (r .count) (r .code) ts′ rows′ (go .playable) s is a b c d) wrote;
+          quick = go .quick;
+          playable = event-playable p line step g n ts rows (between read end bytes) e nextRig (r .count) (r .code) ts′ rows′ (go .playable) s;
           zeros = left .zeros;
           inside = c;
           waiting = d;
@@ -137,7 +142,7 @@ module _ {p : Player} {ts₀ ts : List (List (List ℕ))} {rows₀ rows : List (
       let long = go .long in
       record {
         plays = rw same (go .plays);
-        fits = rw same (record { fits = (go .run, go .zeros) });
+        fits = rw same (record { fits = (rw (go .quick) (go .playable), go .zeros) });
         low = go .low;
         high = go .high;
         room = omega arith;

@@ -19,7 +19,7 @@ use Rattle.player_next.specs.Lines.{between, NoLine}
 
 -- the player p, among its events, with other places, another rig and another count
 abbrev pub playerAt : Player → ℕ → ℕ → Rig → ℕ → Player
-playerAt p line step g n = record { stage = Events; line = line; step = step; size = p .size; given = p .given; sets = p .sets; rig = g; count = n }
+playerAt p line step g n = record { stage = Events; line = line; step = step; size = p .size; given = p .given; sets = p .sets; rig = g; count = n; tested = p .tested }
 
 -- These bytes are whole lines. Read from t on, they leave u; what they print stands in the output from place `at` on, and nothing else
 -- changed there. `to` is the place behind it.

@@ -24,6 +24,7 @@ use rig_modes::is_inside;
 use rig_modes::is_resting;
 use rig_modes::is_waiting;
 ghost use mathlib.Core.Path.{_≡_};
+ghost use mathlib.Core.Bool.{false};
 ghost use Prim.Native.Nat.{_+_, _≤_};
 ghost use lib.ListN.{length};
 ghost use Rattle.player_printing.specs.Printing.{stepLine, pageLength};
@@ -84,6 +85,7 @@ fn player_at(p: Player, line: u64, step: u64, rig: Rig, count: usize) -> Player
         sets: sets,
         rig: rig,
         count: count,
+        tested: p.tested,
     }
 }
 
@@ -105,7 +107,7 @@ fn stop_here(p: Player, out: &mut [u8], at: usize, from: usize) -> Stretch
 }
 
 // An inner call: plays the lines of events that end within the text, from `from` on, and prints them behind the first `at` bytes of the
-// output. It ends where no whole line is left, where the run has ended, or where the output has less room left than a page. `sent` is working
+// output, without a test of a state. It ends where no whole line is left, where the run has ended, or where the output has less room left than a page. `sent` is working
 // room for its events, and nothing is promised of what is left there.
 pub fn play_events(
     p: Player,
@@ -116,7 +118,7 @@ pub fn play_events(
     out: &mut [u8],
     at: usize,
 ) -> Stretch
-    requires { ⌜ PlayerFits p (now tables) (now list) × (p .stage ≡ Events) × (from ≤ length (now text)) × (at ≤ length (now out)) ⌝ }
+    requires { ⌜ PlayerFits p (now tables) (now list) × (p .stage ≡ Events) × (p .tested ≡ false) × (from ≤ length (now text)) × (at ≤ length (now out)) ⌝ }
     ensures { λ r. ⌜ LeavesStretch p tables list (now (text .entry)) from out at r ⌝ }
 {
     let mut sent = [[0; Message::FIELDS]; Rig::SENT];

@@ -4,8 +4,10 @@ use mathlib.Core.Bool.{Bool, true, false}
 use mathlib.Core.List.{List, _++_}
 use mathlib.Core.Path.{_≡_}
 use lib.ListN.{replicate, take}
-use Rattle.rig.specs.Limits.{blankTables}
 use denote.Ref.{now}
+use Rattle.rig.specs.declared.Rig.{Rig}
+use Rattle.rig.specs.Limits.{blankTables}
+use Rattle.model.specs.State.{Stored, sizeOf, setsOf}
 use Rattle.list_rows.specs.Rows.{zeroRows}
 use Rattle.list_rows.specs.State.{Lent}
 use Rattle.player_grammar.specs.Grammar.{lineLimit}
@@ -37,6 +39,20 @@ pub record PlayingFits (s : Playing) : Type 0 where
 -- before the first line
 abbrev pub firstPlaying : Playing
 firstPlaying = record { player = beginning; tables = blankTables; list = zeroRows; line = replicate lineRoom 0; held = 0 }
+
+-- What is known before the first line of a text that goes on from a state: the next line is an event; lines and events are counted from 1.
+abbrev pub resumed : Stored → Text
+resumed s = record { stage = Events; line = 0; step = 0; size = sizeOf (s .tables); given = sizeOf (s .tables); sets = setsOf (s .tables); state = s }
+
+-- the player then, with its tables and its list
+abbrev pub resumedPlaying : Rig → List (List (List ℕ)) → List (List ℕ) → ℕ → Bool → Playing
+resumedPlaying g ts rows n tested = record {
+  player = record { stage = Events; line = 0; step = 0; size = g .size; given = g .size; sets = g .sets; rig = g; count = n; tested = tested };
+  tables = ts;
+  list = rows;
+  line = replicate lineRoom 0;
+  held = 0;
+}
 
 -- the run has ended
 abbrev pub overAt : Stage → Bool

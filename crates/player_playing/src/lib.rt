@@ -10,9 +10,13 @@ use rig::Rig;
 use rig::Tables;
 ghost use Prim.Native.Nat.{min};
 ghost use mathlib.Core.Path.{_≡_};
+ghost use mathlib.Core.List.{[]};
+ghost use Rattle.list_rows.specs.Rows.{ZeroPast};
+ghost use Rattle.list_rows.specs.State.{stored};
 ghost use Rattle.player_text.specs.Player.{onEnd};
+ghost use Rattle.player_text.specs.Calls.{FitsEvents};
 ghost use Rattle.player_printing.specs.Printing.{Printed};
-ghost use Rattle.player_playing.specs.State.{lineRoom, known, cutLine, PlayingFits, firstPlaying, overAt, LeavesPlayed, Continues};
+ghost use Rattle.player_playing.specs.State.{lineRoom, known, cutLine, PlayingFits, firstPlaying, resumed, resumedPlaying, overAt, LeavesPlayed, Continues};
 
 // The player with all that it needs between two parts of a text: what it knows, the rig's tables, its list of messages, and the bytes
 // of the line that the end of a part cut. Nobody outside makes or changes one.
@@ -31,15 +35,22 @@ pub struct Played {
     pub written: usize,
 }
 
+// What the player knows of its text, with its rig and how many messages are under way.
+pub fn player_of(s: Playing) -> Player
+    ensures { λ r. ⌜ r ≡ s .player ⌝ }
+{
+    s.player
+}
+
 // Two fields, and a state made of its fields. Only these three functions read an array of arrays in a state or write one out as a
 // literal: Rattle does not walk either, and their proofs are by hand.
-fn tables_of(s: Playing) -> Tables
+pub fn tables_of(s: Playing) -> Tables
     ensures { λ r. ⌜ r ≡ s .tables ⌝ }
 {
     s.tables
 }
 
-fn list_of(s: Playing) -> Rows
+pub fn list_of(s: Playing) -> Rows
     ensures { λ r. ⌜ r ≡ s .list ⌝ }
 {
     s.list
@@ -75,8 +86,31 @@ pub fn begin() -> Playing
     made_of(player, tables, list, line, 0)
 }
 
+// An inner call: before the first line of a text that goes on from a state: lines of events alone. The state need not be one of a run. Where
+// `tested`, it and each later one is tested before an event; else it is one on which no event is refused with 10, and so is each later one.
+pub fn going_on(rig: Rig, tables: &Tables, list: &Rows, count: usize, tested: bool) -> Playing
+    requires { ⌜ FitsEvents tested (stored rig (now tables) (now list) count) × ZeroPast count (now list) ⌝ }
+    ensures { λ r. ⌜ r ≡ resumedPlaying rig (now (tables .entry)) (now (list .entry)) count tested ⌝ }
+    ensures { λ r. ⌜ (known r ≡ resumed (stored rig (now (tables .entry)) (now (list .entry)) count)) × (cutLine r ≡ []) × PlayingFits r ⌝ }
+{
+    let sets = rig.sets;
+    let player = Player {
+        stage: Stage::Events,
+        line: 0,
+        step: 0,
+        size: rig.size,
+        given: rig.size,
+        sets: sets,
+        rig: rig,
+        count: count,
+        tested: tested,
+    };
+    let line = [0u8; LINE_ROOM];
+    made_of(player, *tables, *list, line, 0)
+}
+
 // Plays a part of a text. It reads all of it, or stops where the output has less room left than a page: with less from the start it may read
-// nothing. The state is as `begin` or an earlier part left it; nobody else makes one.
+// nothing. The state is as `begin`, `going_on` or an earlier part left it; nobody else makes one.
 pub fn part(s: Playing, given: &[u8], out: &mut [u8]) -> Played
     requires { ⌜ PlayingFits s ⌝ }
     ensures { λ r. ⌜ LeavesPlayed s (now (given .entry)) out r ⌝ }
@@ -111,7 +145,7 @@ pub fn is_over(s: Playing) -> bool
     }
 }
 
-// As many bytes as are held, and no more than there is room for. Every state that `begin` or `part` leaves holds fewer.
+// As many bytes as are held, and no more than there is room for. Every state that `begin`, `going_on` or `part` leaves holds fewer.
 fn at_most_room(held: usize) -> usize
     ensures { λ r. ⌜ r ≡ min held lineRoom ⌝ }
 {

@@ -25,7 +25,7 @@ pub struct PartRead {
     pub at: usize,
 }
 
-// Plays the lines of events from `from` on, if it is among the events.
+// Plays the lines of events from `from` on, if it is among the events and need not test each state.
 fn play_on(
     p: Player,
     tables: &mut Tables,
@@ -40,7 +40,15 @@ fn play_on(
 {
     let stage = p.stage;
     match stage {
-        Stage::Events => play_events(p, tables, list, given, from, out, at),
+        Stage::Events => if p.tested {
+            Stretch {
+                player: p,
+                from: from,
+                at: at,
+            }
+        } else {
+            play_events(p, tables, list, given, from, out, at)
+        },
         _ => Stretch {
             player: p,
             from: from,

@@ -40,6 +40,7 @@ pub fn on_size(p: Player, page: &mut Page, m: Line) -> Said
         sets: sets,
         rig: rig,
         count: p.count,
+        tested: p.tested,
     };
     Said {
         player: next,
@@ -67,6 +68,7 @@ fn all_given(p: Player, page: &mut Page, sets: [u64; Rig::SITES]) -> Said
         sets: sets,
         rig: rig,
         count: 0,
+        tested: false,
     };
     Said {
         player: next,
@@ -99,6 +101,7 @@ pub fn on_set(p: Player, page: &mut Page, m: Line) -> Said
         sets: sets,
         rig: rig,
         count: p.count,
+        tested: p.tested,
     };
     Said {
         player: next,

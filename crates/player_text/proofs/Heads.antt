@@ -1,6 +1,7 @@
 -- How a line before the first event may end: the run stops, goes on, or its events begin.
 use Prim.Native.Nat.{ℕ, _+_, _≤_, _<_}
 use mathlib.Core.Path.{_≡_, refl}
+use mathlib.Core.Bool.{false}
 use mathlib.Core.List.{List, [], map}
 use mathlib.Core.Option.{some}
 use native.Mathlib.Numerals.{add-one}
@@ -12,6 +13,8 @@ use Rattle.model.specs.Tables.{put}
 use Rattle.model.specs.Setup.{sizeListed, setupCode, freshRig}
 use Rattle.model.specs.State.{freshTables}
 use Rattle.model.specs.Run.{fresh, run}
+use Rattle.model_shaped.specs.Kept.{RunsPlayable}
+use Rattle.model_shaped.proofs.Runs.{runs-playable}
 use Rattle.list_rows.specs.Rows.{messageOf, zeroRows}
 use Rattle.player_printing.specs.Printing.{stopLine, Printed}
 use Rattle.player_text.specs.declared.Player.{Player}
@@ -26,13 +29,13 @@ nothing = record { count = refl; text = refl; rest = refl; long = refl }
 -- the player once it has N, one set more, or all sets
 module _ (p : Player) (place : ℕ) where
   abbrev sized : ℕ → Player
-  sized n = record { stage = Sets; line = place; step = p .step; size = n; given = 0; sets = p .sets; rig = p .rig; count = p .count }
+  sized n = record { stage = Sets; line = place; step = p .step; size = n; given = 0; sets = p .sets; rig = p .rig; count = p .count; tested = p .tested }
 
   abbrev longer : List ℕ → Player
-  longer sets = record { stage = Sets; line = place; step = p .step; size = p .size; given = p .given + 1; sets = sets; rig = p .rig; count = p .count }
+  longer sets = record { stage = Sets; line = place; step = p .step; size = p .size; given = p .given + 1; sets = sets; rig = p .rig; count = p .count; tested = p .tested }
 
   abbrev started : List ℕ → Rig → Player
-  started sets g = record { stage = Events; line = place; step = p .step; size = p .size; given = p .size; sets = sets; rig = g; count = 0 }
+  started sets g = record { stage = Events; line = place; step = p .step; size = p .size; given = p .size; sets = sets; rig = g; count = 0; tested = false }
 
 module _ (p : Player) {page : List ℕ} (ts : List (List (List ℕ))) (rows : List (List ℕ)) where
   pub stops : {after : List ℕ} (r : Said) (code line : ℕ) → (r .player ≡ over p) × Printed (stopLine code line) page after (r .printed)
@@ -60,13 +63,13 @@ module _ (p : Player) {page : List ℕ} (ts : List (List (List ℕ))) (rows : Li
     pub starts : (sets : List ℕ) (g : Rig) → setupCode (p .size) sets ≡ 0 → g ≡ freshRig (p .size) sets
         → GivesOutcome (allGiven (text p ts rows) sets) (text (started p place sets g) ts rows) page page 0
         × PlayerFits (started p place sets g) ts rows
-    unfolding allGiven fresh freshTables run
+    unfolding allGiven fresh freshTables run RunsPlayable
     starts sets g e f =
         let ts-same = untouched .noneStored in
         let rows-same = untouched .noneUnderWay in
         rw (counts, e, f, ts-same, rows-same) (
           record { known = refl; printed = nothing },
           record {
-            fits = (record { run = record { size = p .size; sets = sets; list = map messageOf (zeroRows); events = []; passed = e; same = refl }; long = refl }, refl);
+            fits = (runs-playable _ (record { run = record { size = p .size; sets = sets; list = map messageOf (zeroRows); events = []; passed = e; same = refl }; long = refl }), refl);
           },
         )

@@ -1,15 +1,16 @@
 -- The player as the code has it: what its calls ask, and what they promise.
 use Prim.Native.Nat.{ℕ, _≤_, _<_}
 use mathlib.Core.Path.{_≡_}
+use mathlib.Core.Bool.{Bool, true, false}
 use mathlib.Core.List.{List}
-use lib.ListN.{replicate}
+use lib.ListN.{length, replicate}
 use denote.Ref.{now}
-use Rattle.rig.specs.Limits.{siteLimit, blankTables}
+use Rattle.rig.specs.Limits.{siteLimit, messageLimit, blankTables}
 use Rattle.model.specs.Setup.{noRig}
 use Rattle.model.specs.State.{Stored}
 use Rattle.list_rows.specs.Rows.{zeroRows, ZeroPast}
 use Rattle.list_rows.specs.State.{stored, Lent}
-use Rattle.model.specs.Run.{InRun}
+use Rattle.model_shaped.specs.Kept.{Playable}
 use Rattle.player_printing.specs.Printing.{Printed}
 use Rattle.player_text.specs.declared.Player.{Player}
 use Rattle.player_text.specs.declared.Said.{Said}
@@ -30,11 +31,17 @@ pub record Untouched (ts : List (List (List ℕ))) (rows : List (List ℕ)) : Ty
   pub noneStored : ts ≡ blankTables
   pub noneUnderWay : rows ≡ zeroRows
 
--- what holds at each stage: N and the sets still to come; a state of a run
+-- A state among the events. Where it is tested before each, it may be misshapen, but has a list of 1,024 entries; else it is well shaped, and so
+-- are the states that follow.
+abbrev pub FitsEvents : Bool → Stored → Type 0
+FitsEvents true s = (length (s .list) ≡ messageLimit) × (s .count ≤ messageLimit)
+FitsEvents false s = Playable s
+
+-- what holds at each stage: N and the sets still to come; a state among the events
 abbrev pub HoldsAt : Stage → Player → List (List (List ℕ)) → List (List ℕ) → Type 0
 HoldsAt Size p ts rows = Untouched ts rows
 HoldsAt Sets p ts rows = Untouched ts rows × (p .size ≤ siteLimit) × (p .given < p .size)
-HoldsAt Events p ts rows = InRun (stored (p .rig) ts rows (p .count)) × ZeroPast (p .count) rows
+HoldsAt Events p ts rows = FitsEvents (p .tested) (stored (p .rig) ts rows (p .count)) × ZeroPast (p .count) rows
 HoldsAt Over p ts rows = Unit
 
 -- the player and what it is lent belong together, as its first call and every later one leave them
@@ -43,10 +50,10 @@ pub record PlayerFits (p : Player) (ts : List (List (List ℕ))) (rows : List (L
 
 -- the player before its first line, and once the run has ended
 abbrev pub beginning : Player
-beginning = record { stage = Size; line = 0; step = 0; size = 0; given = 0; sets = replicate siteLimit 0; rig = noRig; count = 0 }
+beginning = record { stage = Size; line = 0; step = 0; size = 0; given = 0; sets = replicate siteLimit 0; rig = noRig; count = 0; tested = false }
 
 abbrev pub over : Player → Player
-over p = record { stage = Over; line = p .line; step = p .step; size = p .size; given = p .given; sets = p .sets; rig = p .rig; count = p .count }
+over p = record { stage = Over; line = p .line; step = p .step; size = p .size; given = p .given; sets = p .sets; rig = p .rig; count = p .count; tested = p .tested }
 
 -- the outcome's bytes stand on the page, n of them, and the outcome's text is what the player then knows
 pub record GivesOutcome (o : Outcome) (next : Text) (page after : List ℕ) (n : ℕ) : Type 0 where

@@ -17,7 +17,8 @@ pub enum Stage {
 }
 
 // What the player knows: the next line's kind, the lines read, the events played, N, how many sets were read, the sets, and the rig
-// with how many messages are under way. The rig's tables and its list are lent to each call.
+// with how many messages are under way. The rig's tables and its list are lent to each call. Where `tested`, each event tests its state
+// first, since it may be misshapen (10); no state of a run is.
 pub struct Player {
     pub stage: Stage,
     pub line: u64,
@@ -27,6 +28,7 @@ pub struct Player {
     pub sets: [u64; Rig::SITES],
     pub rig: Rig,
     pub count: usize,
+    pub tested: bool,
 }
 
 // The next player, and how many bytes of the page are to be written out.
@@ -55,6 +57,7 @@ pub fn begin() -> Player
         sets: [0; Rig::SITES],
         rig: resting(0, [0; Rig::SITES]),
         count: 0,
+        tested: false,
     }
 }
 
@@ -74,6 +77,7 @@ pub fn stop(p: Player, page: &mut Page, code: u64, line: u64) -> Said
         sets: sets,
         rig: rig,
         count: p.count,
+        tested: p.tested,
     };
     Said {
         player: next,

@@ -5,7 +5,7 @@ use mathlib.Core.Path.{_≡_}
 use lib.ListN.{take}
 use denote.Ref.{now}
 use Rattle.list_rows.specs.State.{Lent}
-use Rattle.player_text.specs.Player.{onEnd, output}
+use Rattle.player_text.specs.Player.{onEnd, transcript, output}
 use Rattle.player_playing.specs.declared.Playing.{Playing}
 use Rattle.player_playing.specs.declared.Played.{Played}
 use Rattle.player_playing.specs.State.{known, cutLine, firstPlaying, Continues}
@@ -33,3 +33,7 @@ InOrder s (c ∷ cs) t = Continues s (c .given) (c .out) (c .answer) × InOrder 
 -- Whatever the calls are given and lent: what they wrote, and then what `finish` prints, is what the text prints that they have read.
 unfoldable pub WholeText : Type 0
 WholeText = (calls : List Call) (t : Playing) → InOrder firstPlaying calls t → writtenBy calls ++ onEnd (known t) (cutLine t) ≡ output (readBy calls)
+
+-- The same from any state of the player on: one in the middle of a text, or one that goes on from a saved state.
+unfoldable pub WholeTextFrom : Type 0
+WholeTextFrom = (s : Playing) (calls : List Call) (t : Playing) → InOrder s calls t → writtenBy calls ++ onEnd (known t) (cutLine t) ≡ transcript (known s) (cutLine s) (readBy calls)

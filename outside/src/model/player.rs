@@ -18,16 +18,48 @@ pub fn play_with(text: &[u8], mut step: impl FnMut(&mut Rig, Event) -> Result<()
     let outcome =
         read_rig(&mut lines).and_then(|mut rig| play_events(&mut lines, &mut rig, &mut step, &mut output));
     if let Err(stop) = outcome {
-        let code = stop.refusal.code();
-        writeln!(output, "stop={code} line={}", stop.line).expect("a Vec takes all");
+        writeln!(output, "{stop}").expect("a Vec takes all");
     }
     output
 }
 
+/// Plays a text and gives the state after its last event.
+pub fn last_state(text: &[u8]) -> Result<Rig, Stop> {
+    let mut lines = Lines::new(text);
+    let mut rig = read_rig(&mut lines)?;
+    play_events(&mut lines, &mut rig, &mut Rig::apply, &mut Vec::new())?;
+    Ok(rig)
+}
+
+/// Goes on with a rig that may be in any state (request 2.2): lines of events
+/// alone, places and lines counted from 1.
+pub fn go_on(rig: &mut Rig, events: &[u8], output: &mut Vec<u8>) -> Result<(), Stop> {
+    go_on_with(rig, events, Rig::apply_judged, output)
+}
+
+/// The same with another step in place of [`Rig::apply_judged`].
+pub fn go_on_with(
+    rig: &mut Rig,
+    events: &[u8],
+    mut step: impl FnMut(&mut Rig, Event) -> Result<(), Refusal>,
+    output: &mut Vec<u8>,
+) -> Result<(), Stop> {
+    play_events(&mut Lines::new(events), rig, &mut step, output)
+}
+
 /// Why and at which line a run ends early.
-struct Stop {
-    refusal: Refusal,
-    line: usize,
+#[derive(Clone, Copy, Debug, PartialEq, Eq)]
+pub struct Stop {
+    /// Why.
+    pub refusal: Refusal,
+    /// The line, from 1.
+    pub line: usize,
+}
+
+impl std::fmt::Display for Stop {
+    fn fmt(&self, f: &mut std::fmt::Formatter<'_>) -> std::fmt::Result {
+        write!(f, "stop={} line={}", self.refusal.code(), self.line)
+    }
 }
 
 /// A line that must be there, in the form that `parse` knows.

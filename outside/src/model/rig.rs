@@ -50,6 +50,18 @@ impl Rig {
         Rig::setup(lists.len(), &buffer)
     }
 
+    /// A rig put together from its parts, site 1 first, and judged by no one.
+    pub(crate) fn of_parts(
+        lists: &[Vec<Site>],
+        desks: Vec<Desk>,
+        under_way: Vec<Message>,
+        accepted: u32,
+    ) -> Rig {
+        let members = [&[Vec::new()], lists].concat();
+        let desks = [vec![Desk::fresh(lists.len())], desks].concat();
+        Rig { members, desks, under_way, accepted }
+    }
+
     /// The number of sites.
     pub fn size(&self) -> Site {
         self.sites().end - 1
@@ -164,6 +176,14 @@ impl Rig {
         let change = self.plan(event)?;
         self.commit(change);
         Ok(())
+    }
+
+    /// The same with the check of the state before it: 10 if it is misshapen.
+    pub fn apply_judged(&mut self, event: Event) -> Result<(), Refusal> {
+        if self.is_misshapen() {
+            return Err(Refusal::Misshapen);
+        }
+        self.apply(event)
     }
 
     fn existing(&self, site: Site) -> Result<(), Refusal> {

@@ -22,7 +22,7 @@ returns c =
     let a = c .before .before .args in
     let s = stored (a .rig) (now (a .tables)) (now (a .list)) (a .count) in
     let told : testedWith (a .code) s (a .e) ≡ answer (a .code) s = ap (λ (b : Bool). cond (not b) (answer (a .code) s) (tested s (a .e))) (ne-eqb (a .code) 0 (c .before .if1 .taken)) in
-    rw (c .refused .ensures) (sym told)
+    rw (c .refused .ensures) (sym told, c .before .before .pre .1)
 
 well-shaped-requires : tie.Need-well-shaped-requires
 well-shaped-requires c κs = c .before .before .before .pre .0 (c .before .before .if1 .left)
@@ -36,14 +36,14 @@ returns-2 c =
     let a = c .before .before .before .before .before .before .args in
     let s = stored (a .rig) (now (a .tables)) (now (a .list)) (a .count) in
     let told : testedWith (a .code) s (a .e) ≡ answer 10 s = rw (eq-eqb _ _ (c .before .before .before .before .before .if1 .left), sym (c .before .before .well-shaped .ensures) ∙ not-true _ (c .before .if2 .taken)) in
-    rw (c .refused2 .ensures) (sym told)
+    rw (c .refused2 .ensures) (sym told, c .before .before .before .before .before .before .pre .1)
 
 step-requires : tie.Need-step-requires
 step-requires c κs = (sym (c .before .before .before .before .well-shaped .ensures) ∙ not-false _ (c .before .before .before .if2 .left), c .before .before .before .before .before .before .before .before .pre .1)
 
 returns-3 : tie.Need-returns-3
 unfolding testedWith tested
-returns-3 c = rw (eq-eqb _ _ (c .before .before .before .before .before .before .before .before .if1 .left), sym (c .before .before .before .before .before .well-shaped .ensures) ∙ not-false _ (c .before .before .before .before .if2 .left)) (c .step .ensures .0)
+returns-3 c = rw (eq-eqb _ _ (c .before .before .before .before .before .before .before .before .if1 .left), sym (c .before .before .before .before .before .well-shaped .ensures) ∙ not-false _ (c .before .before .before .before .if2 .left)) (c .step .ensures .0, c .step .ensures .1)
 
 pub event-spec : {M : Type 1} → statement M
 event-spec =

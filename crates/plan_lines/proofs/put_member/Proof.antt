@@ -2,7 +2,9 @@
 use mathlib.Core.Path.{refl}
 use borrow.Author.Needs.{needs}
 use borrow.Author.Tests.{eq-eqb, ne-eqb}
+use native.Mathlib.Omega.{arith}
 use Rattle.basics.proofs.Tests.{failed, passed}
+use Rattle.player_bytes.proofs.Digits.{decimal-length}
 use Rattle.plan_lines.proofs.put_member.Statement.{statement}
 use Rattle.plan_lines.proofs.put_member.Tie as tie
 
@@ -13,7 +15,7 @@ returns : tie.Need-returns
 returns c = rw (failed (c .before .is-member .ensures) (c .if1 .taken)) (record { behind = search needs; stored = refl })
 
 put-decimal-requires : tie.Need-put-decimal-requires
-put-decimal-requires c κs = search needs
+put-decimal-requires c κs = omega (arith, decimal-length (c .before .before .before .before .before .args .m))
 
 same-length : tie.Need-same-length
 same-length c = search needs

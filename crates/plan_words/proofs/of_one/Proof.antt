@@ -6,7 +6,8 @@ use mathlib.Core.Path.{_≡_, sym, _∙_}
 use borrow.Author.Needs.{needs}
 use denote.Ref.{now}
 use Rattle.families.specs.declared.Family.the-variants.{Grid, Billiard, Plane}
-use Rattle.plan_words.specs.Words.{same, gridWord, billiardWord, planeWord, ofOne}
+use Rattle.player_bytes.specs.Same.{same}
+use Rattle.plan_words.specs.Words.{gridWord, billiardWord, planeWord, ofOne}
 use Rattle.plan_words.specs.declared.Asked.{Asked}
 use Rattle.plan_words.specs.declared.Asked.the-variants.{For, Wrong}
 use Rattle.plan_words.proofs.of_one.Statement.{statement}

@@ -10,7 +10,7 @@ put-word-requires : tie.Need-put-word-requires
 put-word-requires c κs = search needs
 
 put-decimal-requires : tie.Need-put-decimal-requires
-put-decimal-requires c κs = search needs
+put-decimal-requires c κs = omega (arith, decimal-length (c .before .before .before .before .before .before .before .args .n))
 
 same-length : tie.Need-same-length
 same-length c = search needs

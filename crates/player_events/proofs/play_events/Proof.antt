@@ -47,7 +47,7 @@ waiting-requires : tie.Need-waiting-requires Inv-loop μ-loop
 waiting-requires c κs = search needs
 
 loop-holds : tie.Need-loop-holds Inv-loop μ-loop
-loop-holds c = let p = c .before .before .before .before .before .pre in begins (p .0) (p .1) (p .2) (p .3) (c .before .inside .ensures) (c .waiting .ensures)
+loop-holds c = let p = c .before .before .before .before .before .pre in begins (p .0) (p .1) (p .2) (p .3) (p .4) (c .before .inside .ensures) (c .waiting .ensures)
 
 sub-loop : tie.Need-sub-loop Inv-loop μ-loop
 sub-loop c = search needs

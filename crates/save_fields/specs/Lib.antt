@@ -1,0 +1,3 @@
+-- The fields of a state as numbers, and back.
+pub mod Fields
+pub mod Values

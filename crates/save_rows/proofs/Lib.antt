@@ -1,0 +1,3 @@
+-- What writing and reading answer, case by case.
+pub mod Writing
+pub mod Reading

@@ -1,0 +1,102 @@
+// A state whose list is in rows, written as a text and read from one.
+use list_rows::Rows;
+use player_bytes::put_word;
+use player_bytes::same_bytes;
+use rig::Answer;
+use rig::Rig;
+use rig::Tables;
+use save_reading::read_lines;
+use save_text::LONGEST;
+use save_writing::put_state;
+use setup::resting;
+use shape_state::well_shaped;
+ghost use mathlib.Core.Path.{_≡_};
+ghost use Prim.Native.Nat.{_≤_};
+ghost use Rattle.rig.specs.Limits.{messageLimit};
+ghost use Rattle.list_rows.specs.Rows.{zeroRows};
+ghost use Rattle.list_rows.specs.State.{before};
+ghost use Rattle.save_text.specs.Text.{firstSpelling};
+ghost use Rattle.save_text.specs.Reading.{isTextOf};
+ghost use Rattle.save_rows.specs.Rows.{inBuffer, writtenWith, ReadsRows};
+
+// The code of writing, and the text's length.
+pub struct Saved {
+    pub code: u64,
+    pub length: usize,
+}
+
+// An inner call: the text of a state whose list got that code, at the front of the buffer.
+pub fn write_rows(
+    rig: Rig,
+    tables: &Tables,
+    list: &Rows,
+    code: u64,
+    count: usize,
+    out: &mut [u8],
+) -> Saved
+    requires { ⌜ (code ≡ 0 → count ≤ messageLimit) ⌝ }
+    ensures { λ r. ⌜ inBuffer r (now (out .exit)) ≡ writtenWith code (before rig tables list count) (now (out .entry)) ⌝ }
+{
+    if code != 0 {
+        return refused(code);
+    }
+    if !well_shaped(rig, tables, list, count) {
+        return refused(10);
+    }
+    let mut page = [0u8; LONGEST];
+    let n = put_state(&mut page, rig, tables, list, count);
+    if n > out.len() {
+        return refused(15);
+    }
+    put_word(out, 0, &page[..n]);
+    Saved { code: 0, length: n }
+}
+
+// A refusal: nothing is written.
+fn refused(code: u64) -> Saved
+    ensures { λ r. ⌜ r ≡ record { code = code; length = 0 } ⌝ }
+{
+    Saved {
+        code: code,
+        length: 0,
+    }
+}
+
+// An inner call: what a text says, in the tables and in rows of zeros, for a list of `len` entries. No table is written before the text is judged.
+pub fn read_rows(text: &[u8], len: usize, tables: &mut Tables, list: &mut Rows) -> Answer
+    requires { ⌜ now list ≡ zeroRows ⌝ }
+    ensures { λ r. ⌜ ReadsRows len (now (text .entry)) (now (tables .entry)) (now (tables .exit)) (now (list .exit)) r ⌝ }
+{
+    let none = resting(0, [0; Rig::SITES]);
+    if len != Rig::MESSAGES {
+        return Answer::refused(13, none, 0);
+    }
+    let mut read = Rig::blank();
+    let given = read_lines(text, &mut read, list);
+    let rig = given.rig;
+    if !given.fits {
+        return Answer::refused(14, none, 0);
+    }
+    if !is_text_of(text, rig, &read, list, given.count) {
+        return Answer::refused(14, none, 0);
+    }
+    *tables = read;
+    Answer {
+        code: 0,
+        rig: rig,
+        count: given.count,
+    }
+}
+
+// Whether a state is well shaped and these bytes are its text.
+fn is_text_of(text: &[u8], rig: Rig, tables: &Tables, list: &Rows, count: usize) -> bool
+    requires { ⌜ count ≤ messageLimit ⌝ }
+    ensures { λ r. ⌜ r ≡ isTextOf firstSpelling (now (text .entry)) (before rig tables list count) ⌝ }
+{
+    if !well_shaped(rig, tables, list, count) {
+        return false;
+    }
+    let mut page = [0u8; LONGEST];
+    let n = put_state(&mut page, rig, tables, list, count);
+    same_bytes(&page[..n], text)
+}

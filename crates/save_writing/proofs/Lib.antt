@@ -1,0 +1,4 @@
+-- Laws of lines put one behind the other.
+pub mod Puts
+pub mod Askers
+pub mod State

@@ -1,0 +1,128 @@
+//! The calls of `state` tried on the reading itself, right and with planted
+//! faults, and on programs that are no `state` at all.
+
+use std::fs;
+use std::path::{Path, PathBuf};
+use std::process::{Command, Output};
+use std::time::Duration;
+
+use outside::state_compare::{compare_state, Plan};
+use outside::subject::{Ending, Subject};
+
+const REFERENCE: &str = env!("CARGO_BIN_EXE_reference_state");
+
+fn program(binary: &str) -> Subject {
+    Subject::new(Path::new(binary), Duration::from_secs(60)).unwrap()
+}
+
+/// A folder of its own for each test.
+fn folder(name: &str) -> PathBuf {
+    let path = Path::new(env!("CARGO_TARGET_TMPDIR")).join(format!("keeper-{name}"));
+    let _ = fs::remove_dir_all(&path);
+    fs::create_dir_all(&path).unwrap();
+    path
+}
+
+fn plan(name: &str) -> Plan {
+    let folder = folder(name);
+    Plan { seed: 3, rounds: 200, script: false, spent: false, misshapen: true, jobs: 2, folder }
+}
+
+fn outside(words: &[&str], environment: &[(&str, &str)]) -> Output {
+    let mut command = Command::new(env!("CARGO_BIN_EXE_outside"));
+    command.args(words).envs(environment.iter().copied()).output().unwrap()
+}
+
+fn files(folder: &Path) -> Vec<PathBuf> {
+    fs::read_dir(folder).unwrap().map(|entry| entry.unwrap().path()).collect()
+}
+
+#[test]
+fn the_reading_equals_itself() {
+    let folder = folder("equal");
+    let words = ["state", REFERENCE, "--rounds", "40", "--seed", "5", "--folder", folder.to_str().unwrap()];
+    let output = outside(&words, &[]);
+    let printed = String::from_utf8(output.stdout).unwrap();
+    assert_eq!(output.status.code(), Some(0), "{printed}");
+    assert!(printed.starts_with("seed 5\n"), "{printed}");
+    assert!(printed.contains(" calls were equal in "), "{printed}");
+    assert!(printed.ends_with("\nall answers are equal\n"), "{printed}");
+    assert_eq!(files(&folder), Vec::<PathBuf>::new());
+}
+
+#[test]
+fn a_difference_is_shown_and_saved() {
+    let folder = folder("different");
+    let words = ["state", REFERENCE, "--seed", "5", "--folder", folder.to_str().unwrap()];
+    let output = outside(&words, &[("OUTSIDE_FAULT", "places-go-on")]);
+    let printed = String::from_utf8(output.stdout).unwrap();
+    assert_eq!(output.status.code(), Some(1), "{printed}");
+    assert!(printed.contains("DIFFERENCE at batch "), "{printed}");
+    assert!(printed.contains("    reading: \"step=1 code="), "{printed}");
+    assert_eq!(files(&folder).len(), 4, "{printed}");
+
+    // The command that is printed shows it again.
+    let again = printed.lines().find_map(|line| line.trim().strip_prefix("again: ")).unwrap();
+    let run = |fault: &str| {
+        Command::new("/bin/sh").args(["-c", again]).env("OUTSIDE_FAULT", fault).output().unwrap().stdout
+    };
+    let stored = |end: &str| {
+        let path = files(&folder).into_iter().find(|path| path.extension().is_some_and(|found| found == end));
+        fs::read(path.unwrap()).unwrap()
+    };
+    assert_eq!(run("places-go-on"), stored("printed"));
+    assert_eq!(run("accepted-is-not-kept"), stored("expected"));
+}
+
+#[test]
+fn planted_faults_are_found() {
+    for fault in [
+        "zeros-may-lead",
+        "shape-is-not-tested",
+        "last-message-is-not-written",
+        "places-go-on",
+        "lines-count-the-head",
+        "stop-14-says-a-line",
+        "usage-to-standard-output",
+    ] {
+        let subject = program(REFERENCE).with("OUTSIDE_FAULT", fault);
+        assert_eq!(compare_state(&subject, &plan("faults")), Ok(false), "{fault}");
+    }
+}
+
+#[test]
+fn the_script_has_an_exit_status_and_the_program_has_none() {
+    let script = || program(REFERENCE).with("OUTSIDE_SCRIPT", "1");
+    let plan = Plan { rounds: 16, ..plan("script") };
+    let with_script = Plan { script: true, ..plan.clone() };
+    assert_eq!(compare_state(&script(), &with_script), Ok(true));
+    assert_eq!(compare_state(&script(), &plan), Ok(false));
+    assert_eq!(compare_state(&program(REFERENCE), &with_script), Ok(false));
+}
+
+#[test]
+fn runs_with_a_misshapen_state_can_be_left_out() {
+    let subject = || program(REFERENCE).with("OUTSIDE_FAULT", "misshapen-is-played-on");
+    assert_eq!(compare_state(&subject(), &plan("misshapen")), Ok(false));
+    let without = Plan { misshapen: false, ..plan("shaped") };
+    assert_eq!(compare_state(&subject(), &without), Ok(true));
+}
+
+#[test]
+fn other_programs_keep_nothing() {
+    for other in ["/bin/true", "/bin/cat", "/bin/echo"] {
+        assert_eq!(compare_state(&program(other), &plan("other")), Ok(false), "{other}");
+    }
+}
+
+#[test]
+fn words_and_input_are_handed_over() {
+    let words = ["-c", "cat; printf %s \"$1\"; printf %s \"$2\" >&2; exit 7", "x", "a b", ""];
+    let words: Vec<Vec<u8>> = words.iter().map(|word| word.as_bytes().to_vec()).collect();
+    for piece in [1, 3, usize::MAX] {
+        let called = program("/bin/sh").exchange(&words, b"in\n\0put", piece, 1_000).unwrap();
+        assert_eq!(called.output, b"in\n\0puta b");
+        assert_eq!(called.errors, b"");
+        assert_eq!(called.ending, Ending::Exited(7));
+    }
+}
