@@ -1,5 +1,7 @@
 // What an arbiter answers to a site that it has queued, as model/specs/Arbiter defines it. An inner call: the desk is that of the arbiter's
 // own site, and messages go to `out`, behind the first `count` rows.
+use arbiter_fails::fail_former;
+use arbiter_fails::fail_to;
 use arbiter_holder::inquire_of;
 use arbiter_holder::transfer_of;
 use arbiter_queue::before_holder;
@@ -13,26 +15,9 @@ ghost use mathlib.Core.List.{[], _∷_};
 ghost use Prim.Native.Nat.{_+_, _≤_};
 ghost use lib.ListN.{length};
 ghost use Rattle.rig.specs.Limits.{siteLimit, SiteNumber};
-ghost use Rattle.model.specs.Arbiter.{failFormer, inquireOrFail, answers};
+ghost use Rattle.model.specs.Arbiter.{inquireOrFail, answers};
 ghost use Rattle.list_rows.specs.Rows.{Appends};
 ghost use Rattle.arbiter_grants.specs.Needs.{Room};
-
-// A fail to the head before k was queued, if there was one other than k and it comes before the holder.
-fn fail_former(d: Desk, out: &mut [Row], count: usize, k: u64, former: u64) -> usize
-    requires { ⌜ Room d 0 1 count (now out) × (former ≤ siteLimit) ⌝ }
-    ensures { λ r. ⌜ Appends (failFormer d k former) count (now (out .entry)) (now (out .exit)) r ⌝ }
-{
-    if former == 0 {
-        return count;
-    }
-    if former == k {
-        return count;
-    }
-    if !before_holder(&d.queued, d.arbiter, former) {
-        return count;
-    }
-    append(out, count, Message::fail(d.number, former))
-}
 
 // An inquire to the holder if k comes before it, else a fail to k.
 fn inquire_or_fail(d: Desk, k: u64) -> Message
@@ -42,7 +27,7 @@ fn inquire_or_fail(d: Desk, k: u64) -> Message
     if before_holder(&d.queued, d.arbiter, k) {
         return inquire_of(d.number, d.arbiter);
     }
-    Message::fail(d.number, k)
+    fail_to(d, k)
 }
 
 // Two messages, in this order.
@@ -60,7 +45,7 @@ pub fn answers(d: Desk, out: &mut [Row], count: usize, k: u64, former: u64) -> u
     ensures { λ r. ⌜ Appends (answers d k former) count (now (out .entry)) (now (out .exit)) r ⌝ }
 {
     if head(&d.queued, d.size) != k {
-        return append(out, count, Message::fail(d.number, k));
+        return append(out, count, fail_to(d, k));
     }
     let failed = fail_former(d, out, count, k, former);
     let named = transfer_of(d.number, d.arbiter, k);

@@ -28,7 +28,7 @@ module _ (d : Desk) (m : Message) where
   unfolding delivered
   of-inquire e = rw e
 
-  pub of-fail : m .kind ≡ FAIL → delivered d m ≡ onFail d
+  pub of-fail : m .kind ≡ FAIL → delivered d m ≡ onFail d (m .number)
   unfolding delivered
   of-fail e = rw e
 

@@ -6,8 +6,8 @@ use event_effects::Acted;
 use list_rows::Row;
 use rig::Desk;
 use rig::Message;
-use site_notices::on_fail;
-use site_notices::on_inquire;
+use site_fails::on_fail;
+use site_inquires::on_inquire;
 use site_replies::on_reply;
 use site_transfers::on_transfer;
 ghost use Rattle.model.specs.Deliver.{delivered};
@@ -32,7 +32,7 @@ pub fn deliver(d: Desk, m: Message, out: &mut [Row], count: usize) -> Acted
         return on_inquire(d, m.from, m.number, out, count);
     }
     if m.kind == Message::FAIL {
-        return on_fail(d, out, count);
+        return on_fail(d, m.number, out, count);
     }
     if m.kind == Message::YIELD {
         return on_yield(d, out, count, m.from, m.number);

@@ -144,10 +144,13 @@ partCases =
     ∷ carrying "an inquire with number 0" (inquire 2 1 0) 10
     ∷ carrying "a yield with number 0" (yield 1 2 0) 10
     ∷ carrying "a transfer with number 0" (transfer 2 1 1 0) 10
-    ∷ carrying "a fail with number 1" (message FAIL 2 1 0 1) 10
+    ∷ carrying "a fail with number 0" (fail 2 1 0) 0
+    ∷ carrying "a fail with number 5" (fail 2 1 5) 0
+    ∷ carrying "a fail with a number at the limit" (fail 2 1 numberLimit) 0
+    ∷ carrying "a fail with a number past the limit" (fail 2 1 (numberLimit + 1)) 10
     ∷ carrying "a request with about" (message REQUEST 1 2 1 1) 10
     ∷ carrying "an inquire with about" (message INQUIRE 2 1 1 1) 10
-    ∷ carrying "a fail with about" (message FAIL 2 1 1 0) 10
+    ∷ carrying "a fail with about" (message FAIL 2 1 1 1) 10
     ∷ carrying "a yield with about" (message YIELD 1 2 1 1) 10
     -- whom it ties: site 1 to arbiter 2, and site 2 to arbiter 1, which is outside its set
     ∷ carrying "a request" (request 1 2 1) 0
@@ -162,8 +165,8 @@ partCases =
     ∷ carrying "a release that names an heir past N" (release 1 2 4 1) 10
     ∷ carrying "an inquire" (inquire 2 1 1) 0
     ∷ carrying "an inquire from an arbiter outside the set" (inquire 1 2 1) 10
-    ∷ carrying "a fail" (fail 2 1) 0
-    ∷ carrying "a fail from an arbiter outside the set" (fail 1 2) 10
+    ∷ carrying "a fail" (fail 2 1 1) 0
+    ∷ carrying "a fail from an arbiter outside the set" (fail 1 2 1) 10
     ∷ carrying "a yield" (yield 1 2 1) 0
     ∷ carrying "a yield to a non-member" (yield 2 1 1) 10
     ∷ carrying "a transfer" (transfer 2 1 1 1) 0

@@ -44,7 +44,7 @@ unfoldable pub baseQueued : List (List ℕ)
 baseQueued = entry blankTable 1 3 1
 
 unfoldable pub baseMessages : List Message
-baseMessages = request 1 2 1 ∷ request 3 3 1 ∷ fail 1 3 ∷ []
+baseMessages = request 1 2 1 ∷ request 3 3 1 ∷ fail 1 3 1 ∷ []
 
 -- what a state has beside its sets and its tables of numbers
 pub record Parts : Type 0 where

@@ -18,7 +18,7 @@ use Rattle.model.specs.Desk.{Effect, effect, has, waits, hasFailed, held
 use Rattle.model.specs.Ask.{requests, asked}
 use Rattle.model.specs.Leave.{handOn, handOns, left}
 use Rattle.model.specs.Arbiter.{holderOf, holderKey, siteKey, headOf, nextHeir, granted, grantedHead, clockRaised, formerTold, failFormer, inquireOrFail, answers, queuedUp, onRequest, inquireIfBefore, headNamed, heirTakesOver, holderReleases, fromHolder, isEarly, earlyRelease, onRelease, onYield}
-use Rattle.model.specs.Site.{failedSet, yielded, allHeld, entered, taken, enteredOrYielded, takes, onReply, remembered, yieldedOrRemembered, onInquire, mustYield, yieldedIf, yieldedUpTo, onFail, namesHeld, onTransfer}
+use Rattle.model.specs.Site.{failedSet, yielded, allHeld, entered, taken, enteredOrYielded, takes, onReply, remembered, yieldedOrRemembered, onInquire, mustYield, yieldedIf, yieldedUpTo, failCounts, onFail, namesHeld, onTransfer}
 use Rattle.model.specs.Deliver.{delivered}
 use Rattle.model.specs.Settling.{weightLimit, rememberedWeight, turnWeight, weight, weights, rememberedIn}
 use Rattle.model.proofs.Shaped.{by-kind}
@@ -214,9 +214,9 @@ yieldedUpTo-cost d (suc i) h =
     let c = yieldedIf-cost (e .desk) (suc i) (record { low = omega arith; high = h }) in
     rw weights-append (omega arith)
 
-fail-cost : (d : Desk) → d .size ≤ siteLimit → cost (onFail d) ≤ deskWeight d
+fail-cost : (d : Desk) (n : ℕ) → d .size ≤ siteLimit → cost (onFail d n) ≤ deskWeight d
 unfolding onFail failedSet
-fail-cost d h = either (waits d) _ _ _ (yieldedUpTo-cost (failedSet d) (d .size) h) (idle d)
+fail-cost d n h = either (failCounts d n) _ _ _ (yieldedUpTo-cost (failedSet d) (d .size) h) (idle d)
 
 transfer-cost : (d : Desk) (j x n : ℕ) → cost (onTransfer d j x n) ≤ deskWeight d
 unfolding onTransfer
@@ -233,7 +233,7 @@ delivered-falls d m size from about =
     (λ e. rw e (omega (arith, plain-cost d (m .from) (m .about) (m .number) e)))
     (λ e. rw e (omega (arith, release-cost d (m .from) (m .about) (m .number))))))
     (λ k. rw k (omega (arith, inquire-cost d (m .from) (m .number) from)))
-    (λ k. rw k (omega (arith, fail-cost d size)))
+    (λ k. rw k (omega (arith, fail-cost d (m .number) size)))
     (λ k. rw k (omega (arith, yield-cost d (m .from) (m .number))))
     (λ k. rw k (omega (arith, transfer-cost d (m .from) (m .about) (m .number))))
     (λ n1 n2 n3 n4 n5 n6 n7. rw (ne-eqb _ _ n1, ne-eqb _ _ n2, ne-eqb _ _ n3, ne-eqb _ _ n4, ne-eqb _ _ n5, ne-eqb _ _ n6, ne-eqb _ _ n7) (omega (arith, idle d)))

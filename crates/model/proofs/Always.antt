@@ -36,16 +36,17 @@ use Rattle.model.specs.Event.{actor, Attempt, refused, possible, numbers
 use Rattle.model.specs.Arbiter.{fromHolder, isEarly}
 use Rattle.model.specs.Site.{takes}
 use Rattle.model.specs.Run.{fresh, run, Always}
+use Rattle.model.specs.Losses.{ShapedWithLosses}
 use Rattle.model.specs.Always.{NineByCount, NumbersWithin, NumbersSmall, AlwaysShaped, AlwaysLong, fitsRule, allFit, NeverStray}
 use Rattle.model.proofs.Setup.{Accepted, accepts, accepted-code}
 use Rattle.model.proofs.Shaped.{in-range}
 use Rattle.model.proofs.Machine.{modeNumber, sentOf, rigOf, rests-same, waits-same}
-use Rattle.model.proofs.Lawful.{told-below, systemFrom, lawful, kept-past, kept-accepted}
+use Rattle.model.proofs.Lawful.{systemFrom, lawful, kept-past, kept-accepted}
 use Rattle.model.proofs.Plain.{wireOf, AllPlain, both}
 use Rattle.model.proofs.Tables.{at-put-same}
-use Rattle.model.proofs.Reached.{Reached, Move, Moves, attempted-moves, moved}
+use Rattle.model.proofs.Reached.{stepOf, Reached, Stepped, Steps, attempted-steps, stepped}
 use Rattle.model.proofs.Codes.{never-ten, never-thirteen, run-long}
-use Rattle.model.proofs.Theorem.{invariant, run-of}
+use Rattle.model.proofs.Theorem.{invariant, run-of, moves-of}
 
 -- the number of a message is the machine's
 number-of : (b j : ℕ) (m : M.Message) → numberOf m ≤ b → wireOf j m .number ≤ b
@@ -109,7 +110,7 @@ module _ (n : ℕ) (l : List ℕ) (a : Accepted n l) (past : (k : ℕ) → n < k
   bound-fits = omega (arith, r .bounded)
 
   below : RigBelow bound state
-  below = rw (r .same, r .counted) (run-numbers y told-below (r .events))
+  below = rw (r .same, r .counted) (run-numbers y (r .events))
 
   pub numbers-within : NumbersWithin bound s
   numbers-within = record {
@@ -227,14 +228,14 @@ module _ (n : ℕ) (l : List ℕ) (a : Accepted n l) (past : (k : ℕ) → n < k
   given x b c = is-given x b (omega (arith, bound-fits))
 
   wire-shaped : (j : ℕ) (m : M.Message) → FitsTables (settingOf y j) (viewOf state j) m → numberOf m ≤ bound → messageShaped (sizeOf t) (setsOf t) (wireOf j m) ≡ true
-  unfolding FitsTables messageShaped numberShaped aboutShaped plainShaped releaseShaped
+  unfolding FitsTables messageShaped numberShaped isNumber aboutShaped plainShaped releaseShaped
   wire-shaped j (M.request k x) f b = rw (site-in k j (f .3), arbiter-in k j (f .3), given x.number (f .2) b, tie k j (f .3))
   wire-shaped j (M.reply u k x) f b = rw (in-range (sizeOf t) u (f .4) (rw (r .size) (f .5)), site-in k j (f .3), given x (f .2) b, tie k j (f .3))
   wire-shaped j (M.release k x) f b = rw (site-in k j (f .2), arbiter-in k j (f .2), given x (f .1) b, tie k j (f .2))
   wire-shaped j (M.handOver k h x) f b =
       rw (site-in k j (f .2), arbiter-in k j (f .2), given x (f .4) b, tie k j (f .2), tie h j (f .3)) (or-second (eqb h 0) true refl)
   wire-shaped j (M.inquire k x) f b = rw (site-in k j (f .2), arbiter-in k j (f .2), given x (f .0) b, tie k j (f .2))
-  wire-shaped j (M.fail k x) f b = rw (site-in k j f, arbiter-in k j f, tie k j f)
+  wire-shaped j (M.fail k x) f b = rw (site-in k j f, arbiter-in k j f, le-leb x numberLimit (omega (arith, bound-fits)), tie k j f)
   wire-shaped j (M.yield k x) f b = rw (site-in k j (f .6), arbiter-in k j (f .6), given x (f .5) b, tie k j (f .6))
   wire-shaped j (M.transfer k h x) f b = rw (site-in k j (f .3), arbiter-in k j (f .3), given x (f .0) b, tie k j (f .3), tie h j (f .4))
 
@@ -286,12 +287,13 @@ module _ (n : ℕ) (l : List ℕ) (a : Accepted n l) (past : (k : ℕ) → n < k
 
   -- 9 comes from the count of events alone
 
-  numbers-fit : (k : ℕ) (e : Effect) (rest : List Message) → Move s k e rest → t .rig .accepted < eventLimit → numbersFit (e .desk .site .clock) (e .desk .arbiter .grant) (e .sent) ≡ true
+  numbers-fit : (ev : Event) (e : Effect) (rest : List Message) → Stepped s ev e rest → t .rig .accepted < eventLimit → numbersFit (e .desk .site .clock) (e .desk .arbiter .grant) (e .sent) ≡ true
   unfolding numbersFit withDesk
-  numbers-fit k e rest v c =
+  numbers-fit ev e rest v c =
+      let k = actor ev in
       let b = suc (suc bound) in
       let fits : b ≤ numberLimit = omega arith in
-      let next : RigBelow b (rigOf (withDesk t k (e .desk)) (rest ++ e .sent)) = rw (moved n l s k e rest r v) (step-bounded y told-below bound state (v .step) below) in
+      let next : RigBelow b (rigOf (withDesk t k (e .desk)) (rest ++ e .sent)) = rw (stepped n l s ev e rest r v) (step-bounded y bound state (stepOf ev) below) in
       let clock : e .desk .site .clock ≤ b = rw (at-put-same restingSite (t .rig .sites) k (e .desk .site) (v .low) (rw (r .sized .sites) (v .high))) at (next .clock k) in
       let grant : e .desk .arbiter .grant ≤ b = rw (at-put-same freeArbiter (t .rig .arbiters) k (e .desk .arbiter) (v .low) (rw (r .sized .arbiters) (v .high))) at (next .rows k .grant) in
       rw (
@@ -300,28 +302,28 @@ module _ (n : ℕ) (l : List ℕ) (a : Accepted n l) (past : (k : ℕ) → n < k
         last-numbers b rest (e .sent) fits (numbers-of b (rest ++ e .sent) (both rest (e .sent) (v .rests) (v .sends)) (next .underWay)),
       )
 
-  limit-nine : (k : ℕ) (e : Effect) (rest : List Message) → Move s k e rest → effectCode (t .rig .accepted) e rest ≡ 9 → t .rig .accepted ≡ eventLimit
+  limit-nine : (ev : Event) (e : Effect) (rest : List Message) → Stepped s ev e rest → effectCode (t .rig .accepted) e rest ≡ 9 → t .rig .accepted ≡ eventLimit
   unfolding limitCode
-  limit-nine k e rest v h = by-bool (leb eventLimit (t .rig .accepted))
+  limit-nine ev e rest v h = by-bool (leb eventLimit (t .rig .accepted))
       (λ c. omega (arith, leb-true eventLimit (t .rig .accepted) c, r .bounded))
-      (λ c. let f = numbers-fit k e rest v (leb-false eventLimit (t .rig .accepted) c) in
+      (λ c. let f = numbers-fit ev e rest v (leb-false eventLimit (t .rig .accepted) c) in
       by-bool (ltb messageLimit (length rest + length (e .sent)))
       (λ d. let x : _≡_ {A = ℕ} 8 9 = rw (c, f, d) at h in absurd (omega arith))
       (λ d. let x : _≡_ {A = ℕ} 0 9 = rw (c, f, d) at h in absurd (omega arith)))
 
-  judged-nine : (k : ℕ) (d : Desk) (ms : List Message) (q : Attempt) → Moves s k q → judged (t .rig .accepted) d ms q .code ≡ 9 → t .rig .accepted ≡ eventLimit
+  judged-nine : (ev : Event) (d : Desk) (ms : List Message) (q : Attempt) → Steps s ev q → judged (t .rig .accepted) d ms q .code ≡ 9 → t .rig .accepted ≡ eventLimit
   unfolding judged
-  judged-nine k d ms (refused c) v h = absurd (v .1 h)
-  judged-nine k d ms (possible e rest) v h =
+  judged-nine ev d ms (refused c) v h = absurd (v .1 h)
+  judged-nine ev d ms (possible e rest) v h =
       by-bool (eqb (effectCode (t .rig .accepted) e rest) 0)
       (λ z. let x : _≡_ {A = ℕ} 0 9 = rw z at h in absurd (omega arith))
-      (λ z. limit-nine k e rest v (rw z at h))
+      (λ z. limit-nine ev e rest v (rw z at h))
 
   pub nine-by-count : (e : Event) → event s e .code ≡ 9 → t .rig .accepted ≡ eventLimit
   unfolding event tested played eventAt settled
   nine-by-count e h =
       by-bool (eqb (length (s .list)) messageLimit)
-      (λ b. judged-nine (actor e) _ _ _ (attempted-moves n l s r well-shaped e) (rw (b, well-shaped) at h))
+      (λ b. judged-nine e _ _ _ (attempted-steps n l s r well-shaped e) (rw (b, well-shaped) at h))
       (λ b. let x : _≡_ {A = ℕ} 13 9 = rw b at h in absurd (omega arith))
 
 -- Said of every run
@@ -334,6 +336,12 @@ always P h n sets list es e =
 pub always-shaped : AlwaysShaped
 unfolding AlwaysShaped
 always-shaped = always _ shaped-and-played
+
+pub shaped-with-losses : ShapedWithLosses
+unfolding ShapedWithLosses
+shaped-with-losses n sets list moves e =
+    let a = accepts n sets e in
+    well-shaped n (keptSets n sets) (kept-accepted n sets a) (kept-past n sets a) _ (moves-of n sets list moves e)
 
 pub always-long : AlwaysLong
 unfolding AlwaysLong fresh

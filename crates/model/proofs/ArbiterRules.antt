@@ -25,7 +25,7 @@ use Rattle.model.specs.Arbiter.{grantOf, holderOf, holderKey, siteKey, h
 use Rattle.basics.proofs.Basics.{by-bool}
 use Rattle.model.proofs.Heads.{head-within}
 use Rattle.model.proofs.Tables.{at-put, length-put}
-use Rattle.model.proofs.Lawful.{before, told}
+use Rattle.model.proofs.Lawful.{before}
 use Rattle.model.proofs.Machine.{sentOf}
 
 -- a queue, given by its numbers
@@ -66,7 +66,7 @@ queue-put q k n e lo hi = fun-ext (λ i. ap askWith (at-put 0 q k n lo (omega ar
 module _ (l : P.Local) (mem : ℕ → Bool) where
   -- the machine's setting for the desk
   abbrev pub settingAt : Desk → Setting
-  settingAt d = record { size = d .size; arbiter = d .number; member = mem; comesBefore = before; told = told }
+  settingAt d = record { size = d .size; arbiter = d .number; member = mem; comesBefore = before }
 
   abbrev seen : Desk → P.View
   seen d = P.view (arbiterIn l d) []

@@ -88,7 +88,7 @@ module _ (s : Stored) (z : Sized (s .tables)) (sh : Shaped s) (m : Message) (e :
       (λ h. let b = tied-listed s sh (m .about) (m .to) (rw h at a) .0 in
       rw h (handOver-delivered t z (m .to) (to .low) (to .high) rest ms (m .from) (m .about) (m .number) (b .low) (b .high)))))
       (λ k. rw k (inquire-delivered t z (m .to) (to .low) (to .high) rest (m .from) (fr .low) (fr .high) ms (m .number)))
-      (λ k. rw k (fail-delivered t z (m .to) (to .low) (to .high) rest ms (λ j h. let w = ties s sh (m .to) j h in (w .2, w .3)) (m .from) (m .number)))
+      (λ k. rw k (fail-delivered t z (m .to) (to .low) (to .high) rest ms (λ j h. let w = ties s sh (m .to) j h in (w .2, w .3)) (m .number) (m .from)))
       (λ k. rw k (yield-delivered t z (m .to) (to .low) (to .high) rest ms (m .from) (m .number) (fr .low) (fr .high)))
       (λ k. rw k (transfer-delivered t z (m .to) (to .low) (to .high) rest (m .from) (fr .low) (fr .high) ms (m .about) (m .number)))
       (λ n1 n2 n3 n4 n5 n6 n7. clash (aboutShaped (setsOf t) m) ab (rw (ne-eqb _ _ n1, ne-eqb _ _ n2, ne-eqb _ _ n3, ne-eqb _ _ n4, ne-eqb _ _ n5, ne-eqb _ _ n6, ne-eqb _ _ n7)))

@@ -12,7 +12,7 @@ use Rattle.model.specs.Desk.{waits, hasFailed, heldFor, inquiredFor}
 use Rattle.model.specs.Ask.{asked}
 use Rattle.model.specs.Leave.{left}
 use Rattle.model.specs.Arbiter.{clockRaised, onRequest}
-use Rattle.model.specs.Site.{failedSet, yielded, allHeld, entered, taken, enteredOrYielded, takes, onReply, remembered, yieldedOrRemembered, onInquire, mustYield, yieldedIf, yieldedUpTo, onFail, namesHeld, onTransfer}
+use Rattle.model.specs.Site.{failedSet, yielded, allHeld, entered, taken, enteredOrYielded, takes, onReply, remembered, yieldedOrRemembered, onInquire, mustYield, yieldedIf, yieldedUpTo, failCounts, onFail, namesHeld, onTransfer}
 use Rattle.model.specs.Deliver.{delivered}
 use Rattle.model.proofs.Tables.{length-put}
 use Rattle.model.proofs.Machine.{DeskSized}
@@ -94,9 +94,9 @@ unfolding yieldedUpTo
 yieldedUpTo-sized d zero y = y
 yieldedUpTo-sized d (suc i) y = yieldedIf-sized (yieldedUpTo d i .desk) (yieldedUpTo-sized d i y) (suc i)
 
-fail-sized : (d : Desk) → DeskSized d → DeskSized (onFail d .desk)
+fail-sized : (d : Desk) (n : ℕ) → DeskSized d → DeskSized (onFail d n .desk)
 unfolding onFail
-fail-sized d y = by-bool (waits d) (λ e. rw e (yieldedUpTo-sized (failedSet d) (d .size) (failed-sized d y))) (λ e. rw e y)
+fail-sized d n y = by-bool (failCounts d n) (λ e. rw e (yieldedUpTo-sized (failedSet d) (d .size) (failed-sized d y))) (λ e. rw e y)
 
 pub delivered-sized : (d : Desk) (m : Message) → DeskSized d → DeskSized (delivered d m .desk)
 unfolding delivered
@@ -105,7 +105,7 @@ delivered-sized d m y =
     (λ e1. by-bool (eqb (m .kind) REPLY) (λ e. rw (e1, e) (reply-sized d (m .about) (m .number) y))
     (λ e2. by-bool (eqb (m .kind) RELEASE) (λ e. rw (e1, e2, e) (of-kept d _ y (release-kept d (m .from) (m .about) (m .number) (y .queued))))
     (λ e3. by-bool (eqb (m .kind) INQUIRE) (λ e. rw (e1, e2, e3, e) (inquire-sized d y (m .from) (m .number)))
-    (λ e4. by-bool (eqb (m .kind) FAIL) (λ e. rw (e1, e2, e3, e4, e) (fail-sized d y))
+    (λ e4. by-bool (eqb (m .kind) FAIL) (λ e. rw (e1, e2, e3, e4, e) (fail-sized d (m .number) y))
     (λ e5. by-bool (eqb (m .kind) YIELD) (λ e. rw (e1, e2, e3, e4, e5, e) (of-kept d _ y (yield-kept d (m .from) (m .number) (y .queued))))
     (λ e6. by-bool (eqb (m .kind) TRANSFER) (λ e. rw (e1, e2, e3, e4, e5, e6, e) (transfer-sized d y (m .from) (m .about) (m .number)))
     (λ e7. rw (e1, e2, e3, e4, e5, e6, e7) y)))))))

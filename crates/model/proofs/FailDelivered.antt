@@ -24,9 +24,9 @@ use Rattle.protocol.specs.Rig as R
 use Rattle.model.specs.Tables.{at, put, cell}
 use Rattle.model.specs.State.{Tables, isWaiting, seqIn, sizeOf, setsOf, hasMember, modeOf, deskOf, withDesk}
 use Rattle.model.specs.Desk.{Effect, heldFor}
-use Rattle.model.specs.Site.{failedSet, yielded, mustYield, yieldedIf, andThen, yieldedUpTo, onFail}
+use Rattle.model.specs.Site.{failedSet, yielded, mustYield, yieldedIf, andThen, yieldedUpTo, failCounts, onFail}
 use Rattle.model.proofs.Tables.{at-put-same, at-put-other, length-put}
-use Rattle.model.proofs.Machine.{modeNumber, systemOf, rowOf, sentOf, rigOf, localAt, Sized, DeskSized, desk-sized, waits-same, rig-path, sites-path, update-self, sitesWith, clockWith, otherRow}
+use Rattle.model.proofs.Machine.{modeNumber, askIn, systemOf, rowOf, sentOf, rigOf, localAt, Sized, DeskSized, desk-sized, waits-same, rig-path, sites-path, update-self, sitesWith, clockWith, otherRow}
 use Rattle.model.proofs.SiteDelivered.{of-site, nothing, columns}
 
 leb-step : (k i : ℕ) → k ≢ suc i → leb k (suc i) ≡ leb k i
@@ -147,10 +147,18 @@ in-order-same f g (suc n) h = rw (in-order-same f g n (λ j a b. h j a (omega ar
 waiting-number : (m : Mode) → isWaiting m ≡ true → modeNumber m ≡ 1
 waiting-number m e = eqb-true (modeNumber m) 1 (waits-same m ∙ e)
 
-module _ (t : Tables) (z : Sized t) (b : ℕ) (lo : 1 ≤ b) (hi : b ≤ siteLimit) (rest ms : List Message) (inside : (j : ℕ) → hasMember (setsOf t) b j ≡ true → (1 ≤ j) × (j ≤ sizeOf t)) where
-  -- what arbiter j sees of the fail
+module _ (t : Tables) (z : Sized t) (b : ℕ) (lo : 1 ≤ b) (hi : b ≤ siteLimit) (rest ms : List Message) (inside : (j : ℕ) → hasMember (setsOf t) b j ≡ true → (1 ≤ j) × (j ≤ sizeOf t)) (x : ℕ) where
+  -- what arbiter j sees of the fail with number x
   abbrev sees : ℕ → P.View
-  sees j = S.onFail (settingOf (systemOf t) j) (P.view (localAt t j) []) b
+  sees j = S.onFail (settingOf (systemOf t) j) (P.view (localAt t j) []) b x
+
+  -- the machine takes it as the definitions do
+  abbrev machineCounts : Bool
+  machineCounts = S.failCounts (λ k. modeNumber (modeOf t k)) (λ k. askIn (modeOf t k)) b x
+
+  counts-same : machineCounts ≡ failCounts (deskOf t b) x
+  unfolding failCounts deskOf
+  counts-same = rw (waits-same (modeOf t b))
 
   -- an entry of a member that is not yielded
   entry-stays : (row old : List ℕ) (i : ℕ) → mustYield (deskOf t b) i ≡ false → Cleared (deskOf t b) (desk-sized t b z lo hi) (sizeOf t) old row → at 0 row i ≡ at 0 old i
@@ -165,9 +173,13 @@ module _ (t : Tables) (z : Sized t) (b : ℕ) (lo : 1 ≤ b) (hi : b ≤ siteLim
       let r = inside i (and-split _ _ m .0) in
       c i (r .0) ∙ rw (le-leb i (sizeOf t) (r .1), m)
 
-  module _ (w : isWaiting (modeOf t b) ≡ true) where
-    waits : eqb (modeNumber (modeOf t b)) 1 ≡ true
-    waits = waits-same (modeOf t b) ∙ w
+  module _ (c : failCounts (deskOf t b) x ≡ true) where
+    w : isWaiting (modeOf t b) ≡ true
+    unfolding failCounts deskOf
+    w = and-split (isWaiting (modeOf t b)) _ c .0
+
+    counts : machineCounts ≡ true
+    counts = counts-same ∙ c
 
     abbrev after : Effect
     after = yieldedUpTo (failedSet (deskOf t b)) (sizeOf t)
@@ -180,25 +192,25 @@ module _ (t : Tables) (z : Sized t) (b : ℕ) (lo : 1 ≤ b) (hi : b ≤ siteLim
     row-seen i =
         let y = all-yielded in
         by-bool (mustYield (deskOf t b) i)
-        (λ m. rw (waits, m) (columns t z b lo hi i
+        (λ m. rw (counts, m) (columns t z b lo hi i
         (rw (entry-goes (after .desk .held) (deskOf t b .held) i m (y .held)))
         (rw (entry-goes (after .desk .heir) (deskOf t b .heir) i m (y .heir)))
         (rw (entry-goes (after .desk .inquired) (deskOf t b .inquired) i m (y .inquired)))))
-        (λ m. rw (waits, m) (columns t z b lo hi i
+        (λ m. rw (counts, m) (columns t z b lo hi i
         (update-self _ b _ (sym (entry-stays (after .desk .held) (deskOf t b .held) i m (y .held))))
         (update-self _ b _ (sym (entry-stays (after .desk .heir) (deskOf t b .heir) i m (y .heir))))
         (update-self _ b _ (sym (entry-stays (after .desk .inquired) (deskOf t b .inquired) i m (y .inquired))))))
 
     sent-seen : (i : ℕ) → goneBy (deskOf t b) (desk-sized t b z lo hi) i ≡ (sees i) .messages
     unfolding S.onFail S.yielded mustYield deskOf cell
-    sent-seen i = by-bool (mustYield (deskOf t b) i) (λ m. rw (waits, m)) (λ m. rw (waits, m))
+    sent-seen i = by-bool (mustYield (deskOf t b) i) (λ m. rw (counts, m)) (λ m. rw (counts, m))
 
-    waiting-fails : (j x : ℕ)
-        → rigOf (withDesk t b (onFail (deskOf t b) .desk)) (rest ++ onFail (deskOf t b) .sent) ≡ R.delivered (systemOf t) (rigOf t ms) (map sentOf rest) j (M.fail b x)
+    counting-fails : (j : ℕ)
+        → rigOf (withDesk t b (onFail (deskOf t b) x .desk)) (rest ++ onFail (deskOf t b) x .sent) ≡ R.delivered (systemOf t) (rigOf t ms) (map sentOf rest) j (M.fail b x)
     unfolding onFail R.delivered deskOf failedSet
-    waiting-fails j x =
+    counting-fails j =
         let y = all-yielded in
-        rw (w, waits)
+        rw (c, counts)
         (of-site t z b lo hi (after .desk) (rest ++ after .sent) (record { arbiter = y .arbiter; queued = y .queued })
         ∙ rig-path
         (ap (λ (x : Site). sitesWith t b (x .mode)) (y .site) ∙ sites-path (update-self _ b _ (waiting-number (modeOf t b) w)) (update-self _ b _ refl) refl)
@@ -206,10 +218,10 @@ module _ (t : Tables) (z : Sized t) (b : ℕ) (lo : 1 ≤ b) (hi : b ≤ siteLim
         (fun-ext row-seen)
         (map-append sentOf rest (after .sent) ∙ rw (y .sent) (ap (λ (x : List R.Sent). map sentOf rest ++ x) (in-order-same _ _ (sizeOf t) (λ i l h. sent-seen i)))))
 
-  pub fail-delivered : (j x : ℕ)
-      → rigOf (withDesk t b (onFail (deskOf t b) .desk)) (rest ++ onFail (deskOf t b) .sent) ≡ R.delivered (systemOf t) (rigOf t ms) (map sentOf rest) j (M.fail b x)
+  pub fail-delivered : (j : ℕ)
+      → rigOf (withDesk t b (onFail (deskOf t b) x .desk)) (rest ++ onFail (deskOf t b) x .sent) ≡ R.delivered (systemOf t) (rigOf t ms) (map sentOf rest) j (M.fail b x)
   unfolding onFail R.delivered S.onFail deskOf R.sentBy
-  fail-delivered j x =
-      by-bool (isWaiting (modeOf t b))
-      (λ w. waiting-fails w j x)
-      (λ w. rw (w, waits-same (modeOf t b), w) (nothing t z b lo hi rest j ∙ rig-path refl refl (update-self _ j _ refl) (rw (each-none (sizeOf t)))))
+  fail-delivered j =
+      by-bool (failCounts (deskOf t b) x)
+      (λ c. counting-fails c j)
+      (λ c. rw (c, counts-same, c) (nothing t z b lo hi rest j ∙ rig-path refl refl (update-self _ j _ refl) (rw (each-none (sizeOf t)))))

@@ -28,13 +28,6 @@ use Rattle.model.proofs.Setup.{Accepted}
 abbrev pub before : Ask → ℕ → Ask → ℕ → Bool
 before a k b l = comesBefore (key a.number k) (key b.number l)
 
--- "`number` is 0 in a fail"
-abbrev pub told : Ask → ℕ
-told a = 0
-
-pub told-below : (a : Ask) → told a ≤ a.number
-told-below a = omega arith
-
 -- a strict order, total on the asks of different sites
 pub before-irrefl : (a : Ask) (k : ℕ) → before a k a k ≡ false
 unfolding comesBefore
@@ -99,7 +92,7 @@ has-one n s e =
 
 -- the family of n sites with the sets l
 abbrev pub systemFrom : ℕ → List ℕ → System
-systemFrom n l = record { size = n; sets = λ k j. member (at 0 l k) j; comesBefore = before; told = told }
+systemFrom n l = record { size = n; sets = λ k j. member (at 0 l k) j; comesBefore = before }
 
 module _ (n : ℕ) (l : List ℕ) (a : Accepted n l) (past : (k : ℕ) → n < k → at 0 l k ≡ 0) where
   name-at : (k : ℕ) → 1 ≤ k → k ≤ n → names n (at 0 l k) ≡ true

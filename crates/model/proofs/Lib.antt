@@ -15,9 +15,11 @@ pub mod Shaped
 pub mod Delivered
 pub mod DeskSizes
 pub mod Plain
+pub mod Lost
 pub mod Reached
 pub mod Codes
 pub mod Theorem
+pub mod Fails
 pub mod Always
 pub mod OfRun
 pub mod Weights

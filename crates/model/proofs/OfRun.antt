@@ -13,14 +13,10 @@ use Rattle.model.specs.State.{Stored, freshTables}
 use Rattle.model.specs.Event.{Answer, played, tested, event}
 use Rattle.model.specs.Run.{fresh, run, OfRun, StartsRun, InRun, Sound, KeepsRun, Demand3}
 use Rattle.model.specs.Always.{AlwaysShaped}
+use Rattle.model.proofs.Reached.{run-append}
 use Rattle.model.proofs.Theorem.{demand3}
 use Rattle.model.proofs.Always.{always-shaped}
 use Rattle.model.proofs.Codes.{event-long}
-
-run-more : (s : Stored) (es : List Event) (e : Event) → run s (es ++ e ∷ []) ≡ event (run s es) e .next
-unfolding run
-run-more s [] e = refl
-run-more s (x ∷ es) e = run-more (event s x .next) es e
 
 -- the rig of sets that pass
 pub starts-run : (n : ℕ) (sets : List ℕ) (g : Rig) → setupCode n sets ≡ 0 → g ≡ freshRig n sets → StartsRun n sets g
@@ -29,7 +25,8 @@ starts-run n sets g e f list = rw f (refl, record { size = n; sets = sets; list 
 
 module _ {s : Stored} (r : OfRun s) where
   next-same : (e : Event) → event s e .next ≡ run (fresh (r .size) (r .sets) (r .list)) (r .events ++ e ∷ [])
-  next-same e = ap (λ (x : Stored). event x e .next) (r .same) ∙ sym (run-more (fresh (r .size) (r .sets) (r .list)) (r .events) e)
+  unfolding run
+  next-same e = ap (λ (x : Stored). event x e .next) (r .same) ∙ sym (run-append (fresh (r .size) (r .sets) (r .list)) (r .events) (e ∷ []))
 
   pub next-of-run : (e : Event) → OfRun (event s e .next)
   next-of-run e = record { size = r .size; sets = r .sets; list = r .list; events = r .events ++ e ∷ []; passed = r .passed; same = next-same e }

@@ -18,7 +18,7 @@ use Rattle.model.specs.Desk.{Effect, has, waits, hasFailed, heldFor, hei
 use Rattle.model.specs.Ask.{requests, asked}
 use Rattle.model.specs.Leave.{handOn, handOns, left}
 use Rattle.model.specs.Arbiter.{grantOf, holderOf, holderKey, siteKey, headOf, heldBy, withQueued, without, transferOf, inquireOf, failTo, nextHeir, granted, grantedHead, clockRaised, formerTold, failFormer, inquireOrFail, answers, queuedUp, onRequest, inquireIfBefore, headNamed, heirTakesOver, holderReleases, fromHolder, isEarly, earlyRelease, onRelease, onYield}
-use Rattle.model.specs.Site.{yielded, allHeld, taken, enteredOrYielded, takes, onReply, yieldedOrRemembered, onInquire, mustYield, yieldedIf, yieldedUpTo, onFail, namesHeld, onTransfer}
+use Rattle.model.specs.Site.{yielded, allHeld, taken, enteredOrYielded, takes, onReply, yieldedOrRemembered, onInquire, mustYield, yieldedIf, yieldedUpTo, failCounts, onFail, namesHeld, onTransfer}
 use Rattle.model.specs.Deliver.{delivered}
 use Rattle.model.proofs.Machine.{sentOf}
 
@@ -29,7 +29,7 @@ wireOf j (M.reply f k n) = reply f k j n
 wireOf j (M.release k n) = release k j 0 n
 wireOf j (M.handOver k x n) = release k j x n
 wireOf j (M.inquire k n) = inquire j k n
-wireOf j (M.fail k n) = fail j k
+wireOf j (M.fail k n) = fail j k n
 wireOf j (M.yield k n) = yield k j n
 wireOf j (M.transfer k x n) = transfer j k x n
 
@@ -165,9 +165,9 @@ unfolding yieldedUpTo yieldedIf
 yieldedUpTo-plain d zero = none
 yieldedUpTo-plain d (suc i) = both (yieldedUpTo d i .sent) _ (yieldedUpTo-plain d i) (either-of (mustYield (yieldedUpTo d i .desk) (suc i)) _ _ (yielded-plain _ (suc i)) none)
 
-fail-plain : (d : Desk) → AllPlain (onFail d .sent)
+fail-plain : (d : Desk) (n : ℕ) → AllPlain (onFail d n .sent)
 unfolding onFail
-fail-plain d = either-of (waits d) _ _ (yieldedUpTo-plain _ _) none
+fail-plain d n = either-of (failCounts d n) _ _ (yieldedUpTo-plain _ _) none
 
 transfer-plain : (d : Desk) (j x n : ℕ) → AllPlain (onTransfer d j x n .sent)
 unfolding onTransfer
@@ -180,7 +180,7 @@ delivered-plain d m =
     (either-of (eqb (m .kind) REPLY) _ _ (reply-plain d _ _)
     (either-of (eqb (m .kind) RELEASE) _ _ (onRelease-plain d _ _ _)
     (either-of (eqb (m .kind) INQUIRE) _ _ (inquire-plain d _ _)
-    (either-of (eqb (m .kind) FAIL) _ _ (fail-plain d)
+    (either-of (eqb (m .kind) FAIL) _ _ (fail-plain d _)
     (either-of (eqb (m .kind) YIELD) _ _ (onYield-plain d _ _)
     (either-of (eqb (m .kind) TRANSFER) _ _ (transfer-plain d _ _ _)
     none))))))

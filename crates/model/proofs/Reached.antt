@@ -1,7 +1,7 @@
 -- Every state of a run is one of the machine: a refused event changes nothing, and an accepted one is a step of the machine.
 use Prim.Native.Nat.{ℕ, _+_, _-_, _≤_, _<_}
 use mathlib.Core.Path.{_≡_, refl, sym, _∙_, ap}
-use mathlib.Core.Logic.{_≢_}
+use mathlib.Core.Logic.{_⊎_, _≢_, inl, inr, ⊎-elim}
 use mathlib.Core.Bool.{Bool, true, false, not, _||_, cond}
 use mathlib.Core.List.{List, [], _∷_, _++_, map}
 use mathlib.Core.Option.{Option, none, some}
@@ -9,10 +9,10 @@ use native.Mathlib.Omega.{arith}
 use lib.Dec.{eqb, leb, ltb}
 use lib.ListN.{length, replicate, length-append}
 use lib.Seq.{take-append-seam}
-use borrow.Author.Tests.{eqb-true, le-leb, leb-false, ltb-false}
-use Rattle.basics.specs.Helpers.{first, withoutFirst}
+use borrow.Author.Tests.{eqb-true, eqb-false, ne-eqb, le-leb, leb-false, ltb-false}
+use Rattle.basics.specs.Helpers.{tally, first, withoutFirst}
 use Rattle.basics.proofs.Basics.{by-bool, clash, or-none}
-use Rattle.basics.proofs.Lists.{All}
+use Rattle.basics.proofs.Lists.{All, tally-snoc-yes, tally-snoc-no}
 use Rattle.rig.specs.declared.Desk.{Desk}
 use Rattle.rig.specs.declared.Message.{Message}
 use Rattle.rig.specs.declared.Event.{Event}
@@ -22,19 +22,23 @@ use Rattle.rig.specs.declared.Mode.the-variants.{Rest, Waiting, Inside}
 use Rattle.rig.specs.Limits.{siteLimit, messageLimit, eventLimit}
 use Rattle.protocol.specs.System.{System}
 use Rattle.protocol.specs.Rig as R
+use Rattle.protocol.proofs.Numbers.{isCounted}
 use Rattle.model.specs.Tables.{at}
 use Rattle.model.specs.State.{Tables, Stored, underWay, sizeOf, setsOf, inRange, modeOf, isResting, isInside, deskOf, withDesk, withAccepted}
 use Rattle.model.specs.Desk.{Effect}
 use Rattle.model.specs.Deliver.{between, delivered}
 use Rattle.model.specs.Shape.{messageShaped, wellShaped}
-use Rattle.model.specs.Event.{actor, sitesNamed, Attempt, refused, possible, takenOff, attempt, attempted, numbersFit, limitCode, effectCode, blankMessage, padded, acceptedState, judged, eventAt, settled, played, tested, event}
+use Rattle.model.specs.Event.{actor, sitesNamed, Attempt, refused, possible, takenOff, attempt, attempted, numbersFit, limitCode, effectCode, blankMessage, padded, acceptedState, judged, eventAt, settled, played, tested, Answer, event}
 use Rattle.model.specs.Run.{run}
+use Rattle.model.specs.Losses as L
+use Rattle.model.specs.Losses.{happens, loses, withLost, runWithLosses}
 use Rattle.model.proofs.Machine.{systemOf, sentOf, rigOf, Sized, DeskSized, desk-sized, sized-desk, rests-same, inside-same}
 use Rattle.model.proofs.Lawful.{systemFrom}
 use Rattle.model.proofs.Shaped.{Shaped, shaped, within, ends}
 use Rattle.model.proofs.AskLeave.{ask-same, leave-same}
 use Rattle.model.proofs.Delivered.{step-delivers, first-shaped, delivered-same}
 use Rattle.model.proofs.Plain.{AllPlain, both, asked-plain, left-plain, delivered-plain}
+use Rattle.model.proofs.Lost.{take-lost, sent-lost, plain-lost}
 use Rattle.model.proofs.DeskSizes.{asked-sized, left-sized, delivered-sized}
 
 -- one event more
@@ -43,11 +47,15 @@ unfolding R.run
 run-more y [] e r = refl
 run-more y (x ∷ es) e r = run-more y es e (R.step y r x)
 
+-- a state as the machine's
+abbrev pub machineOf : Stored → R.Rig
+machineOf s = rigOf (s .tables) (underWay s)
+
 -- a state of the definitions, of n sites with the sets l, that is the machine's after some events
 pub record Reached (n : ℕ) (l : List ℕ) (s : Stored) : Type 0 where
   pub events : List R.Event
-  pub same : rigOf (s .tables) (underWay s) ≡ R.run (systemFrom n l) events R.fresh
-  pub counted : s .tables .rig .accepted ≡ length events
+  pub same : machineOf s ≡ R.run (systemFrom n l) events R.fresh
+  pub counted : s .tables .rig .accepted ≡ tally isCounted events
   pub size : sizeOf (s .tables) ≡ n
   pub sets : s .tables .rig .sets ≡ l
   pub sized : Sized (s .tables)
@@ -84,24 +92,34 @@ at-receiver : (s : Stored) (z : Sized (s .tables)) (sh : Shaped s) (m : Message)
     → rigOf (withDesk (s .tables) b (delivered (deskOf (s .tables) b) m .desk)) (rest ++ delivered (deskOf (s .tables) b) m .sent) ≡ R.delivered (systemOf (s .tables)) (rigOf (s .tables) (underWay s)) (map sentOf rest) ((sentOf m) .arbiter) ((sentOf m) .message)
 at-receiver s z sh m e rest b q = rw q (delivered-same s z sh m e rest (underWay s))
 
--- What an attempt at site k would do, where the machine can do the same: an event of the machine, and its effect.
-pub record Move (s : Stored) (k : ℕ) (e : Effect) (rest : List Message) : Type 0 where
-  pub step : R.Event
-  pub low : 1 ≤ k
-  pub high : k ≤ siteLimit
+-- the machine's event
+abbrev pub stepOf : Event → R.Event
+stepOf (Ask k) = R.ask k
+stepOf (Leave k) = R.leave k
+stepOf (Deliver a b) = R.deliver a b
+
+step-counted : (v : Event) → isCounted (stepOf v) ≡ true
+step-counted (Ask k) = refl
+step-counted (Leave k) = refl
+step-counted (Deliver a b) = refl
+
+-- What an attempt of the event v would do, where the machine does the same.
+pub record Stepped (s : Stored) (v : Event) (e : Effect) (rest : List Message) : Type 0 where
+  pub low : 1 ≤ actor v
+  pub high : actor v ≤ siteLimit
   pub sized : DeskSized (e .desk)
   pub rests : AllPlain rest
   pub sends : AllPlain (e .sent)
-  pub same : rigOf (withDesk (s .tables) k (e .desk)) (rest ++ e .sent) ≡ R.step (systemOf (s .tables)) (rigOf (s .tables) (underWay s)) step
+  pub same : rigOf (withDesk (s .tables) (actor v) (e .desk)) (rest ++ e .sent) ≡ R.step (systemOf (s .tables)) (rigOf (s .tables) (underWay s)) (stepOf v)
 
--- An attempt is refused, not with 0 or 9, or is such a move.
-abbrev pub Moves : Stored → ℕ → Attempt → Type 0
-Moves s k (refused c) = (c ≢ 0) × (c ≢ 9)
-Moves s k (possible e rest) = Move s k e rest
+-- An attempt is refused, not with 0 or 9, or is such a step.
+abbrev pub Steps : Stored → Event → Attempt → Type 0
+Steps s v (refused c) = (c ≢ 0) × (c ≢ 9)
+Steps s v (possible e rest) = Stepped s v e rest
 
-either-moves : (s : Stored) (k : ℕ) (b : Bool) (x y : Attempt) → (b ≡ true → Moves s k x) → Moves s k y → Moves s k (cond b x y)
-either-moves s k true x y f m = f refl
-either-moves s k false x y f m = m
+either-steps : (s : Stored) (v : Event) (b : Bool) (x y : Attempt) → (b ≡ true → Steps s v x) → Steps s v y → Steps s v (cond b x y)
+either-steps s v true x y f m = f refl
+either-steps s v false x y f m = m
 
 module _ (n : ℕ) (l : List ℕ) (s : Stored) (r : Reached n l s) (w : wellShaped s ≡ true) where
   abbrev t : Tables
@@ -110,14 +128,13 @@ module _ (n : ℕ) (l : List ℕ) (s : Stored) (r : Reached n l s) (w : wellShap
   abbrev ms : List Message
   ms = underWay s
 
-  ask-moves : (k : ℕ) → inRange (sizeOf t) k ≡ true → Moves s k (attempt (deskOf t k) ms (Ask k))
-  unfolding attempt deskOf R.step
-  ask-moves k i =
+  ask-steps : (k : ℕ) → inRange (sizeOf t) k ≡ true → Steps s (Ask k) (attempt (deskOf t k) ms (Ask k))
+  unfolding actor attempt deskOf R.step
+  ask-steps k i =
       let b = within (sizeOf t) k i in
       let hi : k ≤ siteLimit = omega (arith, b .1, r .sized .size) in
-      either-moves s k (isResting (modeOf t k)) _ _
+      either-steps s (Ask k) (isResting (modeOf t k)) _ _
       (λ e. record {
-        step = R.ask k;
         low = b .0;
         high = hi;
         sized = asked-sized _ (desk-sized t k (r .sized) (b .0) hi);
@@ -127,14 +144,13 @@ module _ (n : ℕ) (l : List ℕ) (s : Stored) (r : Reached n l s) (w : wellShap
       })
       (omega arith, omega arith)
 
-  leave-moves : (k : ℕ) → inRange (sizeOf t) k ≡ true → Moves s k (attempt (deskOf t k) ms (Leave k))
-  unfolding attempt deskOf R.step
-  leave-moves k i =
+  leave-steps : (k : ℕ) → inRange (sizeOf t) k ≡ true → Steps s (Leave k) (attempt (deskOf t k) ms (Leave k))
+  unfolding actor attempt deskOf R.step
+  leave-steps k i =
       let b = within (sizeOf t) k i in
       let hi : k ≤ siteLimit = omega (arith, b .1, r .sized .size) in
-      either-moves s k (isInside (modeOf t k)) _ _
+      either-steps s (Leave k) (isInside (modeOf t k)) _ _
       (λ e. record {
-        step = R.leave k;
         low = b .0;
         high = hi;
         sized = left-sized _ (desk-sized t k (r .sized) (b .0) hi);
@@ -144,10 +160,10 @@ module _ (n : ℕ) (l : List ℕ) (s : Stored) (r : Reached n l s) (w : wellShap
       })
       (omega arith, omega arith)
 
-  deliver-moves : (a b : ℕ) (o : Option Message) → first (between a b) ms ≡ o → Moves s b (takenOff (deskOf t b) o (withoutFirst (between a b) ms))
-  unfolding takenOff
-  deliver-moves a b none e = (omega arith, omega arith)
-  deliver-moves a b (some m) e =
+  deliver-steps : (a b : ℕ) (o : Option Message) → first (between a b) ms ≡ o → Steps s (Deliver a b) (takenOff (deskOf t b) o (withoutFirst (between a b) ms))
+  unfolding actor takenOff
+  deliver-steps a b none e = (omega arith, omega arith)
+  deliver-steps a b (some m) e =
       let rest = withoutFirst (between a b) ms in
       let sh = shaped s w in
       let mp = first-shaped (sizeOf t) (setsOf t) a b ms m (sh .messages) e in
@@ -156,7 +172,6 @@ module _ (n : ℕ) (l : List ℕ) (s : Stored) (r : Reached n l s) (w : wellShap
       let lo : 1 ≤ b = omega (arith, q, to .low) in
       let hi : b ≤ siteLimit = omega (arith, q, to .high) in
       record {
-        step = R.deliver a b;
         low = lo;
         high = hi;
         sized = delivered-sized _ m (desk-sized t b (r .sized) lo hi);
@@ -165,69 +180,114 @@ module _ (n : ℕ) (l : List ℕ) (s : Stored) (r : Reached n l s) (w : wellShap
         same = at-receiver s (r .sized) sh m (mp .0) rest b q ∙ sym (step-delivers t ms a b m e);
       }
 
-  attempt-moves : (e : Event) → sitesNamed (sizeOf t) e ≡ true → Moves s (actor e) (attempt (deskOf t (actor e)) ms e)
+  attempt-steps : (e : Event) → sitesNamed (sizeOf t) e ≡ true → Steps s e (attempt (deskOf t (actor e)) ms e)
   unfolding sitesNamed actor attempt
-  attempt-moves (Ask k) i = ask-moves k i
-  attempt-moves (Leave k) i = leave-moves k i
-  attempt-moves (Deliver a b) i = deliver-moves a b (first (between a b) ms) refl
+  attempt-steps (Ask k) i = ask-steps k i
+  attempt-steps (Leave k) i = leave-steps k i
+  attempt-steps (Deliver a b) i = deliver-steps a b (first (between a b) ms) refl
 
-  pub attempted-moves : (e : Event) → Moves s (actor e) (attempted (deskOf t (actor e)) ms e)
+  pub attempted-steps : (e : Event) → Steps s e (attempted (deskOf t (actor e)) ms e)
   unfolding attempted deskOf
-  attempted-moves e =
+  attempted-steps e =
       by-bool (sitesNamed (sizeOf t) e)
-      (λ c. rw c (attempt-moves e c))
+      (λ c. rw c (attempt-steps e c))
       (λ c. rw c ((λ x. omega (arith, x)), (λ x. omega (arith, x))))
 
 module _ (n : ℕ) (l : List ℕ) where
   -- the machine's next state, by the family's own sets
-  pub moved : (s : Stored) (k : ℕ) (e : Effect) (rest : List Message) → Reached n l s → (v : Move s k e rest)
-      → rigOf (withDesk (s .tables) k (e .desk)) (rest ++ e .sent) ≡ R.step (systemFrom n l) (rigOf (s .tables) (underWay s)) (v .step)
-  moved s k e rest r v = v .same ∙ ap (λ (y : System). R.step y (rigOf (s .tables) (underWay s)) (v .step)) (system-same (s .tables) n l (r .size) (r .sets))
+  pub stepped : (s : Stored) (v : Event) (e : Effect) (rest : List Message) → Reached n l s → Stepped s v e rest
+      → rigOf (withDesk (s .tables) (actor v) (e .desk)) (rest ++ e .sent) ≡ R.step (systemFrom n l) (rigOf (s .tables) (underWay s)) (stepOf v)
+  stepped s v e rest r h = h .same ∙ ap (λ (y : System). R.step y (rigOf (s .tables) (underWay s)) (stepOf v)) (system-same (s .tables) n l (r .size) (r .sets))
 
-  -- the state after an accepted move
-  steps : (s : Stored) (k : ℕ) (e : Effect) (rest : List Message) → Reached n l s → Move s k e rest → effectCode (s .tables .rig .accepted) e rest ≡ 0 → Reached n l (acceptedState (s .tables) k (e .desk) (rest ++ e .sent))
+  -- the state after an accepted step: the machine's, and reached
+  accepted-steps : (s : Stored) (v : Event) (e : Effect) (rest : List Message) → Reached n l s → Stepped s v e rest → machineOf (acceptedState (s .tables) (actor v) (e .desk) (rest ++ e .sent)) ≡ R.step (systemFrom n l) (machineOf s) (stepOf v)
   unfolding acceptedState padded withDesk withAccepted
-  steps s k e rest r v h =
+  accepted-steps s v e rest r h = let ms = rest ++ e .sent in rw (take-append-seam ms (replicate (messageLimit - length ms) blankMessage)) (stepped s v e rest r h)
+
+  accepted-reached : (s : Stored) (v : Event) (e : Effect) (rest : List Message) → Reached n l s → Stepped s v e rest → effectCode (s .tables .rig .accepted) e rest ≡ 0
+      → Reached n l (acceptedState (s .tables) (actor v) (e .desk) (rest ++ e .sent))
+  unfolding acceptedState padded withDesk withAccepted
+  accepted-reached s v e rest r h c =
       let ms = rest ++ e .sent in
-      let free = room _ _ _ (e .sent) (length rest) h in
+      let free = room _ _ _ (e .sent) (length rest) c in
       let len : length ms ≤ messageLimit = rw length-append (free .0) in
       let seam = take-append-seam ms (replicate (messageLimit - length ms) blankMessage) in
-      let z = sized-desk (s .tables) k (e .desk) (r .sized) (v .sized) (v .low) (v .high) in
+      let z = sized-desk (s .tables) (actor v) (e .desk) (r .sized) (h .sized) (h .low) (h .high) in
       record {
-        events = r .events ++ v .step ∷ [];
+        events = r .events ++ stepOf v ∷ [];
         same =
-            rw seam
-            (moved s k e rest r v
-            ∙ ap (λ (x : R.Rig). R.step (systemFrom n l) x (v .step)) (r .same)
-            ∙ sym (run-more (systemFrom n l) (r .events) (v .step) R.fresh));
-        counted = rw (r .counted, length-append) refl;
+            accepted-steps s v e rest r h
+            ∙ ap (λ (x : R.Rig). R.step (systemFrom n l) x (stepOf v)) (r .same)
+            ∙ sym (run-more (systemFrom n l) (r .events) (stepOf v) R.fresh);
+        counted = rw (r .counted, tally-snoc-yes isCounted (r .events) (stepOf v) (step-counted v)) (omega arith);
         size = r .size;
         sets = r .sets;
         sized = record { size = z .size; sets = z .sets; sites = z .sites; arbiters = z .arbiters; held = z .held; heir = z .heir; inquired = z .inquired; queued = z .queued };
         few = len;
         bounded = omega (arith, free .1);
-        plain = rw seam (both rest (e .sent) (v .rests) (v .sends));
+        plain = rw seam (both rest (e .sent) (h .rests) (h .sends));
       }
 
-  -- an attempt, judged by its limits
-  judged-reached : (s : Stored) (k : ℕ) (d : Desk) (ms : List Message) (a : Attempt) → Reached n l s → Moves s k a → Reached n l (settled s k (judged (s .tables .rig .accepted) d ms a) .next)
-  unfolding judged settled
-  judged-reached s k d ms (refused c) r v = by-bool (eqb c 0) (λ h. absurd (v .0 (eqb-true c 0 h))) (λ h. rw h r)
-  judged-reached s k d ms (possible e rest) r v =
-      by-bool (eqb (effectCode (s .tables .rig .accepted) e rest) 0)
-      (λ h. rw h (steps s k e rest r v (eqb-true _ 0 h)))
-      (λ h. rw (h, h) r)
+  -- What an event answers: it is accepted, and its state is the machine's next one and reached, or refused, and nothing has changed.
+  abbrev Answered : Stored → Event → Answer → Type 0
+  Answered s v a = ((a .code ≡ 0) × (machineOf (a .next) ≡ R.step (systemFrom n l) (machineOf s) (stepOf v)) × Reached n l (a .next)) ⊎ ((a .code ≢ 0) × (a .next ≡ s))
 
-  pub event-reached : (s : Stored) (e : Event) → Reached n l s → Reached n l (event s e .next)
+  judged-answered : (s : Stored) (v : Event) (d : Desk) (ms : List Message) (a : Attempt) → Reached n l s → Steps s v a → Answered s v (settled s (actor v) (judged (s .tables .rig .accepted) d ms a))
+  unfolding judged settled
+  judged-answered s v d ms (refused c) r h = inr (h .0, rw (ne-eqb c 0 (h .0)))
+  judged-answered s v d ms (possible e rest) r h =
+      let c = effectCode (s .tables .rig .accepted) e rest in
+      by-bool (eqb c 0)
+      (λ z. rw z (inl (refl, accepted-steps s v e rest r h, accepted-reached s v e rest r h (eqb-true _ 0 z))))
+      (λ z. rw z (inr (eqb-false c 0 z, rw z)))
+
+  pub event-answered : (s : Stored) (e : Event) → Reached n l s → Answered s e (event s e)
   unfolding event tested played eventAt
-  event-reached s e r =
+  event-answered s e r =
       by-bool (eqb (length (s .list)) messageLimit)
       (λ a. by-bool (wellShaped s)
-      (λ b. rw (a, b) (judged-reached s (actor e) _ _ _ r (attempted-moves n l s r b e)))
-      (λ b. rw (a, b) r))
-      (λ a. rw a r)
+      (λ b. rw (a, b) (judged-answered s e _ _ _ r (attempted-steps n l s r b e)))
+      (λ b. rw (a, b) (inr ((λ x. omega (arith, x)), refl))))
+      (λ a. rw a (inr ((λ x. omega (arith, x)), refl)))
+
+  pub event-reached : (s : Stored) (e : Event) → Reached n l s → Reached n l (event s e .next)
+  event-reached s e r = ⊎-elim (λ h. h .2) (λ h. rw (h .1) r) (event-answered s e r)
 
   pub run-reached : (es : List Event) (s : Stored) → Reached n l s → Reached n l (run s es)
   unfolding run
   run-reached [] s r = r
   run-reached (e ∷ es) s r = run-reached es (event s e .next) (event-reached s e r)
+
+  -- fails lose their numbers
+  lost-reached : (s : Stored) (p : ℕ → Bool) → Reached n l s → Reached n l (withLost p s)
+  unfolding withLost R.step
+  lost-reached s p r = record {
+    events = r .events ++ R.lose p ∷ [];
+    same =
+        rw (take-lost p (s .count) (s .list), sent-lost p (underWay s))
+        (ap (λ (x : R.Rig). R.step (systemFrom n l) x (R.lose p)) (r .same) ∙ sym (run-more (systemFrom n l) (r .events) (R.lose p) R.fresh));
+    counted = r .counted ∙ sym (tally-snoc-no isCounted (r .events) (R.lose p) refl);
+    size = r .size;
+    sets = r .sets;
+    sized = r .sized;
+    few = r .few;
+    bounded = r .bounded;
+    plain = rw (take-lost p (s .count) (s .list)) (plain-lost p (underWay s) (r .plain));
+  }
+
+  pub moves-reached : (moves : List L.Move) (s : Stored) → Reached n l s → Reached n l (runWithLosses s moves)
+  unfolding runWithLosses L.moved
+  moves-reached [] s r = r
+  moves-reached (happens e ∷ moves) s r = moves-reached moves (event s e .next) (event-reached s e r)
+  moves-reached (loses p ∷ moves) s r = moves-reached moves (withLost p s) (lost-reached s p r)
+
+-- one list of events after another
+pub run-append : (s : Stored) (xs ys : List Event) → run s (xs ++ ys) ≡ run (run s xs) ys
+unfolding run
+run-append s [] ys = refl
+run-append s (x ∷ xs) ys = run-append (event s x .next) xs ys
+
+pub moves-append : (s : Stored) (xs ys : List L.Move) → runWithLosses s (xs ++ ys) ≡ runWithLosses (runWithLosses s xs) ys
+unfolding runWithLosses
+moves-append s [] ys = refl
+moves-append s (x ∷ xs) ys = moves-append (L.moved s x) xs ys

@@ -27,12 +27,13 @@ use Rattle.model.specs.Tables.{at, cell}
 use Rattle.model.specs.Setup.{setupCode, restingSite, freeArbiter, keptSets, freshRig}
 use Rattle.model.specs.State.{isWaiting, isInside, failedIn, sizeOf, modeOf, freshTables, Stored, underWay}
 use Rattle.model.specs.Run.{fresh, run, freeAt, isOut, heldAt, isBack, places, insideCount, waitingCount, stuck, Sound, Demand3}
+use Rattle.model.specs.Losses.{Move, runWithLosses, SoundWithLosses}
 use Rattle.model.proofs.Tables.{at-same, Square}
 use Rattle.model.proofs.Setup.{Accepted, accepts}
 use Rattle.model.proofs.Machine.{modeNumber, askIn, sentOf, rigOf, waits-same, inside-same, rig-path, sites-path, row-path}
 use Rattle.model.proofs.Lawful.{systemFrom, lawful, kept-past, kept-accepted}
 use Rattle.model.proofs.Shaped.{by-kind}
-use Rattle.model.proofs.Reached.{Reached, run-reached}
+use Rattle.model.proofs.Reached.{Reached, run-reached, moves-reached}
 
 -- The fresh state is the machine's
 
@@ -57,7 +58,7 @@ blank-columns (suc i) a b = ap length (getD-replicate siteLimit i blankRow [] b)
 square-blank : Square siteLimit blankTable
 square-blank = record { rows = refl; columns = blank-columns }
 
-fresh-same : (n : ℕ) (sets : List ℕ) → rigOf (freshTables n sets) [] ≡ R.fresh
+pub fresh-same : (n : ℕ) (sets : List ℕ) → rigOf (freshTables n sets) [] ≡ R.fresh
 unfolding freshTables freshRig R.fresh
 fresh-same n sets =
     rig-path
@@ -69,8 +70,8 @@ fresh-same n sets =
     (fun-ext (λ j. row-path (freshTables n sets) j freeArbiter (λ k. 0) (λ k. 0) (λ k. 0) (λ k. 0) (at-same freeArbiter siteLimit j) (λ k. blank-cell j k) (λ k. blank-cell k j) (λ k. blank-cell k j) (λ k. blank-cell k j)))
     refl
 
-fresh-reached : (n : ℕ) (sets : List ℕ) (list : List Message) → Accepted n sets → Reached n (keptSets n sets) (fresh n sets list)
-unfolding fresh freshTables freshRig R.run All
+pub fresh-reached : (n : ℕ) (sets : List ℕ) (list : List Message) → Accepted n sets → Reached n (keptSets n sets) (fresh n sets list)
+unfolding fresh freshTables freshRig R.run All tally
 fresh-reached n sets list a = record {
   events = [];
   same = fresh-same n sets;
@@ -86,6 +87,10 @@ fresh-reached n sets list a = record {
 -- a run of the definitions, and the family of its sets
 pub run-of : (n : ℕ) (sets : List ℕ) (list : List Message) (es : List Event) → setupCode n sets ≡ 0 → Reached n (keptSets n sets) (run (fresh n sets list) es)
 run-of n sets list es e = run-reached n (keptSets n sets) es (fresh n sets list) (fresh-reached n sets list (accepts n sets e))
+
+-- and one in which fails lose their numbers
+pub moves-of : (n : ℕ) (sets : List ℕ) (list : List Message) (moves : List Move) → setupCode n sets ≡ 0 → Reached n (keptSets n sets) (runWithLosses (fresh n sets list) moves)
+moves-of n sets list moves e = moves-reached n (keptSets n sets) moves (fresh n sets list) (fresh-reached n sets list (accepts n sets e))
 
 -- The counts of the definitions are the machine's
 
@@ -181,9 +186,15 @@ module _ (n : ℕ) (l : List ℕ) (a : Accepted n l) (past : (k : ℕ) → n < k
     notStuck = not-stuck;
   }
 
+-- of a state of these sets
+reached-sound : (n : ℕ) (sets : List ℕ) (s : Stored) → setupCode n sets ≡ 0 → Reached n (keptSets n sets) s → Sound s
+reached-sound n sets s e r = let a = accepts n sets e in sound n (keptSets n sets) (kept-accepted n sets a) (kept-past n sets a) s r
+
 -- DEMAND 3
 pub demand3 : Demand3
 unfolding Demand3
-demand3 n sets list es e =
-    let a = accepts n sets e in
-    sound n (keptSets n sets) (kept-accepted n sets a) (kept-past n sets a) (run (fresh n sets list) es) (run-of n sets list es e)
+demand3 n sets list es e = reached-sound n sets _ e (run-of n sets list es e)
+
+pub sound-with-losses : SoundWithLosses
+unfolding SoundWithLosses
+sound-with-losses n sets list moves e = reached-sound n sets _ e (moves-of n sets list moves e)

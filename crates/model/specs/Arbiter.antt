@@ -50,8 +50,9 @@ transferOf d k = transfer (d .number) (holderOf d) k (grantOf d)
 abbrev pub inquireOf : Desk → Message
 inquireOf d = inquire (d .number) (holderOf d) (grantOf d)
 
+-- Request 2.3: "a fail carries the sequence number of the ask it is about", the one with which k is queued
 abbrev pub failTo : Desk → ℕ → Message
-failTo d k = fail (d .number) k
+failTo d k = fail (d .number) k (queuedAt d k)
 
 -- "if the queue isn't empty, transfer naming the head to k", the holder
 unfoldable pub nextHeir : Desk → List Message

@@ -21,7 +21,7 @@ delivered d m =
     (cond (eqb (m .kind) REPLY) (onReply d (m .about) (m .number))
     (cond (eqb (m .kind) RELEASE) (onRelease d (m .from) (m .about) (m .number))
     (cond (eqb (m .kind) INQUIRE) (onInquire d (m .from) (m .number))
-    (cond (eqb (m .kind) FAIL) (onFail d)
+    (cond (eqb (m .kind) FAIL) (onFail d (m .number))
     (cond (eqb (m .kind) YIELD) (onYield d (m .from) (m .number))
     (cond (eqb (m .kind) TRANSFER) (onTransfer d (m .from) (m .about) (m .number))
     (effect d [])))))))

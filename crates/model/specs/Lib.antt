@@ -13,6 +13,8 @@ pub mod Deliver
 pub mod Shape
 pub mod Event
 pub mod Run
+pub mod Losses
+pub mod Fails
 pub mod Printed
 pub mod Always
 pub mod Settling

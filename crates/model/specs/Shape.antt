@@ -93,9 +93,9 @@ tablesShaped t =
     && (everywhere (ownShaped (setsOf t)) (t .inquired)
     && everywhere (queuedShaped (setsOf t)) (t .queued))))
 
--- A message. "`number` is 0 in a fail, else at least 1"
+-- A message. "`number` is ... at least 1", but a fail's may be 0 (request 2.3)
 unfoldable pub numberShaped : Message → Bool
-numberShaped m = cond (eqb (m .kind) FAIL) (eqb (m .number) 0) (isGiven (m .number))
+numberShaped m = cond (eqb (m .kind) FAIL) (isNumber (m .number)) (isGiven (m .number))
 
 -- one that is about no site, of site k to or from arbiter j
 unfoldable pub plainShaped : List ℕ → ℕ → ℕ → ℕ → Bool

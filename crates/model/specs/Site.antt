@@ -81,9 +81,14 @@ unfoldable pub yieldedUpTo : Desk → ℕ → Effect
 yieldedUpTo d zero = effect d []
 yieldedUpTo d (suc i) = let e = yieldedUpTo d i in andThen e (yieldedIf (e .desk) (suc i))
 
--- "Fail to a waiting site: failed is set; every held member with a remembered inquire is yielded, ascending."
-unfoldable pub onFail : Desk → Effect
-onFail d = cond (waits d) (yieldedUpTo (failedSet d) (d .size)) (effect d [])
+-- Request 2.3: a fail with number n counts at a site that waits with just that sequence number, and a fail numbered 0 "still counts as before"
+unfoldable pub failCounts : Desk → ℕ → Bool
+failCounts d n = waits d && (eqb n 0 || eqb n (seqIn (d .site .mode)))
+
+-- "Fail to a waiting site: failed is set; every held member with a remembered inquire is yielded, ascending." Request 2.3: "A waiting
+-- site with another number takes it off and does nothing."
+unfoldable pub onFail : Desk → ℕ → Effect
+onFail d n = cond (failCounts d n) (yieldedUpTo (failedSet d) (d .size)) (effect d [])
 
 -- "whose number the site holds for j": n is at least 1 in a well-shaped message, so that j is then held
 abbrev pub namesHeld : Desk → ℕ → ℕ → Bool

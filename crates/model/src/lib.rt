@@ -3,6 +3,8 @@
 // with the code and show in the list of proved functions. Each answers 0.
 ghost use mathlib.Core.Path.{_≡_};
 ghost use Rattle.model.specs.Run.{Demand3};
+ghost use Rattle.model.specs.Losses.{SoundWithLosses, ShapedWithLosses};
+ghost use Rattle.model.specs.Fails.{FailsName, OldFailsIdle};
 ghost use Rattle.model.specs.Corollaries.{Corollaries};
 ghost use Rattle.model.specs.Always.{AlwaysShaped, AlwaysLong, NumbersSmall, NineByCount, NeverStray};
 ghost use Rattle.model.specs.Settling.{Settles, DeliveriesEnd, DeliveriesFew, MeasureBounded, MeasureReached, Deliverable, SettledServes};
@@ -10,6 +12,20 @@ ghost use Rattle.model.specs.Settling.{Settles, DeliveriesEnd, Deliverie
 // Demand 3: after every event of every run, at most one site is inside, every permission is in one place, and no rig is stuck.
 pub fn demand_3() -> u8
     ensures { λ r. ⌜ (r ≡ 0) × Demand3 ⌝ }
+{
+    0
+}
+
+// Demand 3 also of every run in which, between events, any fail under way may lose its number; every state of them is well shaped.
+pub fn demand_3_with_losses() -> u8
+    ensures { λ r. ⌜ (r ≡ 0) × SoundWithLosses × ShapedWithLosses ⌝ }
+{
+    0
+}
+
+// What a fail is about: its number is that of an ask which its receiver has made, and once that ask is over, the fail changes nothing.
+pub fn fails_name_asks() -> u8
+    ensures { λ r. ⌜ (r ≡ 0) × FailsName × OldFailsIdle ⌝ }
 {
     0
 }

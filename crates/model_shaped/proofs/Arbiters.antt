@@ -67,7 +67,7 @@ module _ {n : ℕ} {sets : List ℕ} {b : ℕ} (p : Here n sets b) where
       sent-by d f (λ s. inquire s (holderOf d) (grantOf d)) (inquire-passes p (holderOf d) (grantOf d) (h .0) (f .arbiter .granted ne))
 
   fail-sent : (d : Desk) → F d → (k : ℕ) → hasMember sets k b ≡ true → Passes n sets (failTo d k)
-  fail-sent d f k e = sent-by d f (λ s. fail s k) (fail-passes p k e)
+  fail-sent d f k e = sent-by d f (λ s. fail s k (queuedAt d k)) (fail-passes p k (queuedAt d k) e)
 
   next-heir : (d : Desk) → F d → holderOf d ≢ 0 → All (Passes n sets) (nextHeir d)
   unfolding nextHeir All

@@ -44,7 +44,7 @@ delivered-fine {n} {sets} {b} p d f m q e =
     (λ k. let g = is-given x (rw k at (w .0)) in rw k (reply-fine p d f (m .about) x (g .0) (g .1)))
     (λ k. rw k (release-fine p d f (m .from) (m .about) x (heir-named sets (m .from) b (m .about) (rw (k, q) at about))))
     (λ k. let g = is-given x (rw k at (w .0)) in rw k (inquire-fine p d f (m .from) x (plain-tied sets (m .about) b (m .from) (rw (k, q) at about)) (g .1)))
-    (λ k. rw k (fail-fine p d f))
+    (λ k. rw k (fail-fine p d f x))
     (λ k. rw k (yield-fine p d f (m .from) x (plain-tied sets (m .about) (m .from) b (rw (k, q) at about))))
     (λ k. let t = and-split (hasMember sets b (m .from)) _ (rw (k, q) at about) in rw k (transfer-fine p d f (m .from) (m .about) x (t .0) (t .1)))
     (λ n1 n2 n3 n4 n5 n6 n7. rw (ne-eqb _ _ n1, ne-eqb _ _ n2, ne-eqb _ _ n3, ne-eqb _ _ n4, ne-eqb _ _ n5, ne-eqb _ _ n6, ne-eqb _ _ n7) (record { desk = f; sent = tt }))

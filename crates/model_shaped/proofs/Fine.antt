@@ -166,9 +166,9 @@ module _ {n : ℕ} {sets : List ℕ} {b : ℕ} (p : Here n sets b) where
   unfolding messageShaped numberShaped aboutShaped plainShaped
   inquire-passes k x e l h = rw (here, site-in k b e, given x l h, e)
 
-  pub fail-passes : (k : ℕ) → hasMember sets k b ≡ true → Passes n sets (fail b k)
-  unfolding messageShaped numberShaped aboutShaped plainShaped
-  fail-passes k e h = rw (here, site-in k b e, e)
+  pub fail-passes : (k x : ℕ) → hasMember sets k b ≡ true → Passes n sets (fail b k x)
+  unfolding messageShaped numberShaped isNumber aboutShaped plainShaped
+  fail-passes k x e h = rw (here, site-in k b e, le-leb x numberLimit h, e)
 
   pub yield-passes : (j x : ℕ) → hasMember sets b j ≡ true → 1 ≤ x → Passes n sets (yield b j x)
   unfolding messageShaped numberShaped aboutShaped plainShaped

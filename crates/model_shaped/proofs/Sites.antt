@@ -19,7 +19,7 @@ use Rattle.model.specs.Desk.{Effect, effect, has, waits, hasFailed, heldFor, he
 use Rattle.model.specs.Shape.{isGiven, modeShaped, ownShaped, heirShaped}
 use Rattle.model.specs.Ask.{requests, asked}
 use Rattle.model.specs.Leave.{handOn, handOns, left}
-use Rattle.model.specs.Site.{failedSet, yielded, allHeld, entered, taken, enteredOrYielded, takes, onReply, remembered, yieldedOrRemembered, onInquire, mustYield, yieldedIf, yieldedUpTo, onFail, namesHeld, onTransfer}
+use Rattle.model.specs.Site.{failedSet, yielded, allHeld, entered, taken, enteredOrYielded, takes, onReply, remembered, yieldedOrRemembered, onInquire, mustYield, yieldedIf, yieldedUpTo, failCounts, onFail, namesHeld, onTransfer}
 use Rattle.model.proofs.Tables.{at-put-same, length-put}
 use Rattle.model_shaped.proofs.Rows.{row-put, row-blank}
 use Rattle.model_shaped.proofs.Fine.{given, Here, Entries, Fine, Passes, FineEffect, own-none, heir-none, own-of, heir-of, heir-tied, request-passes, reply-passes, release-passes, handOver-passes, yield-passes}
@@ -209,12 +209,12 @@ module _ {n : ℕ} {sets : List ℕ} {b : ℕ} (p : Here n sets b) where
       let c = yieldedIf-fine (yieldedUpTo d i .desk) (a .0 .desk) (a .1) (suc i) in
       (record { desk = c .0 .desk; sent = all-append _ (yieldedUpTo d i .sent) _ (a .0 .sent) (c .0 .sent) }, c .1)
 
-  pub fail-fine : (d : Desk) → F d → FineEffect n sets b (onFail d)
-  unfolding onFail failedSet All
-  fail-fine d f =
-      by-bool (waits d)
-      (λ w. rw w (yieldedUpTo-fine (failedSet d) (failed-fine d f w) refl (d .size) .0))
-      (λ w. rw w (record { desk = f; sent = tt }))
+  pub fail-fine : (d : Desk) → F d → (x : ℕ) → FineEffect n sets b (onFail d x)
+  unfolding onFail failCounts failedSet All
+  fail-fine d f x =
+      by-bool (failCounts d x)
+      (λ e. rw e (yieldedUpTo-fine (failedSet d) (failed-fine d f (and-split (waits d) _ e .0)) refl (d .size) .0))
+      (λ e. rw e (record { desk = f; sent = tt }))
 
   -- the transfer
 

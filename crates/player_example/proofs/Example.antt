@@ -13,7 +13,7 @@ use Rattle.model.specs.Priority.{comesBefore, headWith, head}
 use Rattle.model.specs.Ask.{requests, asked}
 use Rattle.model.specs.Leave.{handOn, handOns, left}
 use Rattle.model.specs.Arbiter.{headOf, nextHeir, granted, grantedHead, clockRaised, failFormer, inquireOrFail, answers, queuedUp, onRequest, inquireIfBefore, headNamed, heirTakesOver, holderReleases, fromHolder, isEarly, earlyRelease, onRelease, onYield}
-use Rattle.model.specs.Site.{failedSet, yielded, allHeld, entered, taken, enteredOrYielded, takes, onReply, remembered, yieldedOrRemembered, onInquire, mustYield, yieldedIf, yieldedUpTo, onFail, onTransfer}
+use Rattle.model.specs.Site.{failedSet, yielded, allHeld, entered, taken, enteredOrYielded, takes, onReply, remembered, yieldedOrRemembered, onInquire, mustYield, yieldedIf, yieldedUpTo, failCounts, onFail, onTransfer}
 use Rattle.model.specs.Deliver.{between, delivered}
 use Rattle.model.specs.Shape.{isNumber, isGiven, setShaped, modeShaped, siteBlank, siteShaped, holderShaped, arbiterShaped, placeShaped, rigShaped, entryShaped, ownShaped, heirShaped, queuedShaped, everywhere, numberShaped, plainShaped, releaseShaped, aboutShaped, messageShaped, messagesShaped, tablesShaped, wellShaped}
 use Rattle.model.specs.Event.{actor, sitesNamed, takenOff, attempt, attempted, numbersUpTo, numbersFit, limitCode, padded, acceptedState, judged, eventAt, settled, played, tested, event}
@@ -70,5 +70,5 @@ pub printedText :
     ∷ "step=12 code=0 inside=0 waiting=0 flying=0"
     ∷ "step=13 code=7 inside=0 waiting=0 flying=0"
     ∷ [])
-unfolding at put cell all any count member meet names sizeListed allName meetsEarlier allMeet setupCode keptSets freshRig freshTables deskOf withDesk withAccepted comesBefore headWith head requests asked handOn handOns left headOf nextHeir granted grantedHead clockRaised failFormer inquireOrFail answers queuedUp onRequest inquireIfBefore headNamed heirTakesOver holderReleases fromHolder isEarly earlyRelease onRelease onYield failedSet yielded allHeld entered taken enteredOrYielded takes onReply remembered yieldedOrRemembered onInquire mustYield yieldedIf yieldedUpTo onFail onTransfer between first withoutFirst delivered isNumber isGiven setShaped modeShaped siteBlank siteShaped holderShaped arbiterShaped placeShaped rigShaped entryShaped ownShaped heirShaped queuedShaped everywhere numberShaped plainShaped releaseShaped aboutShaped messageShaped messagesShaped tablesShaped wellShaped actor sitesNamed takenOff attempt attempted numbersUpTo numbersFit limitCode padded acceptedState judged eventAt settled played tested event fresh waitingCount lowest insideUpTo lineOf printed allDigits noLeadingZero value number longer parts before allNumbers numbers ascends siteBit withSites setLine one moveLine starts form eventForm meaningOf digits decimal stepLine counted sizeIn setIn eventIn onSize allGiven onSet printedLine onEvent atStage onLine endsAt onEnd start transcript output
+unfolding at put cell all any count member meet names sizeListed allName meetsEarlier allMeet setupCode keptSets freshRig freshTables deskOf withDesk withAccepted comesBefore headWith head requests asked handOn handOns left headOf nextHeir granted grantedHead clockRaised failFormer inquireOrFail answers queuedUp onRequest inquireIfBefore headNamed heirTakesOver holderReleases fromHolder isEarly earlyRelease onRelease onYield failedSet yielded allHeld entered taken enteredOrYielded takes onReply remembered yieldedOrRemembered onInquire mustYield yieldedIf yieldedUpTo failCounts onFail onTransfer between first withoutFirst delivered isNumber isGiven setShaped modeShaped siteBlank siteShaped holderShaped arbiterShaped placeShaped rigShaped entryShaped ownShaped heirShaped queuedShaped everywhere numberShaped plainShaped releaseShaped aboutShaped messageShaped messagesShaped tablesShaped wellShaped actor sitesNamed takenOff attempt attempted numbersUpTo numbersFit limitCode padded acceptedState judged eventAt settled played tested event fresh waitingCount lowest insideUpTo lineOf printed allDigits noLeadingZero value number longer parts before allNumbers numbers ascends siteBit withSites setLine one moveLine starts form eventForm meaningOf digits decimal stepLine counted sizeIn setIn eventIn onSize allGiven onSet printedLine onEvent atStage onLine endsAt onEnd start transcript output
 printedText = refl

@@ -13,7 +13,7 @@ use Rattle.protocol.specs.Setting.{Setting}
 use Rattle.protocol.specs.Local.{REST, WAITING, INSIDE, View}
 use Rattle.protocol.specs.Arbiter.{headOf, beforeHolder}
 use Rattle.basics.proofs.Lists.{All}
-use Rattle.protocol.proofs.Invariant.{siteOf, numberOf, isFor, isForNumber, isRequestOf, isHandOver, isFailTo, isInquire, Ordered, Ascending}
+use Rattle.protocol.proofs.Invariant.{siteOf, numberOf, isFor, isForNumber, isRequestOf, isHandOver, isFailFor, isInquire, Ordered, Ascending}
 
 -- a reply to k with number n; any reply to k
 abbrev pub isReply : ℕ → ℕ → Message → Bool
@@ -92,7 +92,7 @@ module _ (p : Setting) where
         → ((v.tables.queued k) .number ≢ 0 → 0 < tally (isRelease k (suc v.tables.grant)) v.messages) × (v.tables.holder ≡ k → 0 < tally (isAnyRelease k v.tables.grant) v.messages)
     -- a queued site that has not been failed is the head and comes before the holder
     pub L1 : (k : ℕ) → v.tables.mode k ≡ WAITING → p .member k ≡ true → tally (isRequestOf k) v.messages ≡ 0 → v.tables.holder ≢ k → tally (isReplyTo k) v.messages ≡ 0 → v.tables.held k ≡ 0
-        → v.tables.failed k ≡ false → tally (isFailTo k) v.messages ≡ 0 → (headOf p v.tables.queued ≡ k) × (beforeHolder p v.tables k ≡ true)
+        → v.tables.failed k ≡ false → tally (isFailFor k (v.tables.ask k)) v.messages ≡ 0 → (headOf p v.tables.queued ≡ k) × (beforeHolder p v.tables k ≡ true)
     -- a waiting holder that the head comes before is inquired
     pub L2 : v.tables.holder ≢ 0 → v.tables.mode v.tables.holder ≡ WAITING → (0 < tally (isReply v.tables.holder v.tables.grant) v.messages) ⊎ (v.tables.held v.tables.holder ≡ v.tables.grant)
         → headOf p v.tables.queued ≢ 0 → beforeHolder p v.tables (headOf p v.tables.queued) ≡ true → v.tables.inquired v.tables.holder ≢ v.tables.grant

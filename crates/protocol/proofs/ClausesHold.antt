@@ -15,7 +15,7 @@ use Rattle.protocol.specs.Arbiter.{headOf, beforeHolder}
 use Rattle.basics.proofs.Basics.{by-bool, and-split, count-none, count-one}
 use Rattle.basics.proofs.Lists.{all-map, all-some, all-none, tally-mono}
 use Rattle.protocol.proofs.Asks.{same-number}
-use Rattle.protocol.proofs.Invariant.{Ghost, FREE, OUT, HELD, YIELDED, RELEASED, siteOf, numberOf, heirOf, carriesPermission, isRequestOf, isHandOver, isFailTo, isInquire, Situation, situation, Fits, Core, InvariantWith, Invariant}
+use Rattle.protocol.proofs.Invariant.{Ghost, FREE, OUT, HELD, YIELDED, RELEASED, siteOf, numberOf, heirOf, carriesPermission, isRequestOf, isHandOver, isFailFor, isInquire, Situation, situation, Fits, Core, InvariantWith, Invariant}
 use Rattle.protocol.proofs.Fitting.{fits-permission, permission-replied, permission-released, fits-handOver, no-request}
 use Rattle.protocol.proofs.Kept.Granted.{queued-member}
 use Rattle.protocol.proofs.Clauses.{isReply, isReplyTo, isRelease, isAnyRelease, HandOverTo, FitsTables, Clauses}
@@ -324,7 +324,7 @@ module _ (p : Setting) (law : SettingLaw p) where
 
     -- L1
     owing : (k : ℕ) → t.mode k ≡ WAITING → p .member k ≡ true → tally (isRequestOf k) ms ≡ 0 → t.holder ≢ k → tally (isReplyTo k) ms ≡ 0 → t.held k ≡ 0
-        → t.failed k ≡ false → tally (isFailTo k) ms ≡ 0 → (headOf p t.queued ≡ k) × (beforeHolder p t k ≡ true)
+        → t.failed k ≡ false → tally (isFailFor k (t.ask k)) ms ≡ 0 → (headOf p t.queued ≡ k) × (beforeHolder p t k ≡ true)
     owing k m e z nh nr h0 f nf =
         let kk = asked-known k m e z in
         let not-owner : k ≢ o.owner = (λ k1.

@@ -12,7 +12,7 @@ use Rattle.protocol.specs.Setting.{Setting, SettingLaw}
 use Rattle.protocol.specs.Local.{Local, View, view}
 use Rattle.protocol.specs.Site.{handled}
 use Rattle.basics.proofs.Lists.{All, tally-without}
-use Rattle.protocol.proofs.Invariant.{FREE, ghost, isFailTo, isInquire, Ordered, Ascending, Invariant}
+use Rattle.protocol.proofs.Invariant.{FREE, ghost, isFailFor, isInquire, Ordered, Ascending, Invariant}
 use Rattle.protocol.proofs.Sending.{first-underWay}
 use Rattle.protocol.proofs.Owing.{ascending-first}
 use Rattle.protocol.proofs.Kept.Fail.{onFail-kept}
@@ -41,7 +41,7 @@ module _ (p : Setting) (law : SettingLaw p) where
           freeQueueEmpty = s .freeQueueEmpty;
           core = record { arbiter = c .arbiter; asks = c .asks; column = c .column; underWay = first-underWay p ms a b m e (c .underWay) };
           owed = record {
-            failOwed = λ k. rw (tally-without ch (isFailTo k) ms m e) (l .failOwed k);
+            failOwed = λ k. rw (tally-without ch (isFailFor k (t.ask k)) ms m e) (l .failOwed k);
             inquireOwed = rw (tally-without ch (isInquire o.owner t.grant) ms m e) (l .inquireOwed);
             ascending = λ k. ascending-first (p .arbiter) a b k (t.inquired k) ms m e (l .ascending k);
           };

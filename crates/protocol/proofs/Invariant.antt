@@ -14,6 +14,7 @@ use Rattle.protocol.specs.Message.{Message, request, reply, release, han
 use Rattle.protocol.specs.Setting.{Setting}
 use Rattle.protocol.specs.Local.{WAITING, INSIDE, Local, View}
 use Rattle.protocol.specs.Arbiter.{headOf}
+use Rattle.protocol.specs.Site.{answersAsk}
 use Rattle.basics.proofs.Lists.{All}
 
 -- owner: the site that has the permission, or had it last when it is on its way back; 0 while it is free.
@@ -100,8 +101,9 @@ isReturnOf k m = (isBack m || eqb (kind m) HANDOVER) && eqb k (siteOf m)
 abbrev pub isHandOver : ℕ → ℕ → ℕ → Message → Bool
 isHandOver h x n m = eqb (kind m) HANDOVER && (eqb h (siteOf m) && (eqb x (heirOf m) && eqb n (numberOf m)))
 
-abbrev pub isFailTo : ℕ → Message → Bool
-isFailTo k m = isFor FAIL k m
+-- a fail to site k for its ask a
+abbrev pub isFailFor : ℕ → Ask → Message → Bool
+isFailFor k a m = isFor FAIL k m && answersAsk a (numberOf m)
 
 abbrev pub isInquireTo : ℕ → Message → Bool
 isInquireTo k m = isFor INQUIRE k m
@@ -221,9 +223,9 @@ module _ (p : Setting) where
     pub ordered : Ordered ms
 
   -- What is owed, so that no rig is stuck.
-  pub record Owed (grant holder : ℕ) (holderAsk : Ask) (queued : ℕ → Ask) (failed : ℕ → Bool) (inquired : ℕ → ℕ) (owner ahead stage : ℕ) (known : ℕ → ℕ) (ms : List Message) : Type 0 where
-    -- L1: a queued site that is not failed and to whom no fail is under way is the head and comes before the holder
-    pub failOwed : (k : ℕ) → known k ≢ 0 → k ≢ owner → failed k ≡ false → tally (isFailTo k) ms ≡ 0 → (headOf p queued ≡ k) × (p .comesBefore (queued k) k holderAsk holder ≡ true)
+  pub record Owed (grant holder : ℕ) (holderAsk : Ask) (queued ask : ℕ → Ask) (failed : ℕ → Bool) (inquired : ℕ → ℕ) (owner ahead stage : ℕ) (known : ℕ → ℕ) (ms : List Message) : Type 0 where
+    -- L1: a queued site that is not failed and to whom no fail for its ask is under way is the head and comes before the holder
+    pub failOwed : (k : ℕ) → known k ≢ 0 → k ≢ owner → failed k ≡ false → tally (isFailFor k (ask k)) ms ≡ 0 → (headOf p queued ≡ k) × (p .comesBefore (queued k) k holderAsk holder ≡ true)
     -- L2: where the head comes before the holder, which waits, the holder remembers an inquire or one is under way
     pub inquireOwed : ahead ≡ 0 → stage ≢ FREE → stage ≤ HELD → known owner ≢ 0 → headOf p queued ≢ 0 → p .comesBefore (queued (headOf p queued)) (headOf p queued) holderAsk holder ≡ true → inquired owner ≢ grant
         → 0 < tally (isInquire owner grant) ms
@@ -232,7 +234,7 @@ module _ (p : Setting) where
 
   -- the same, of the tables as a whole
   abbrev pub OwedIn : Local → Ghost → List Message → Type 0
-  OwedIn t o ms = Owed t.grant t.holder t.holderAsk t.queued t.failed t.inquired o.owner o.ahead o.stage o.known ms
+  OwedIn t o ms = Owed t.grant t.holder t.holderAsk t.queued t.ask t.failed t.inquired o.owner o.ahead o.stage o.known ms
 
   abbrev pub UnderWayIn : Local → Ghost → List Message → Type 0
   UnderWayIn t o ms = UnderWay (situation t o.owner o.ahead o.stage) o.known ms

@@ -5,6 +5,7 @@ pub mod Invariant
 pub mod Sending
 pub mod Fitting
 pub mod Owing
+pub mod Lost
 pub mod Head
 pub mod Seen
 pub mod Kept
@@ -18,3 +19,5 @@ pub mod RigInvariant
 pub mod RigKept
 pub mod Demand3
 pub mod Numbers
+pub mod Named
+pub mod Later

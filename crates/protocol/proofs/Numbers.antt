@@ -1,24 +1,32 @@
 -- Every number of a run is at most twice the count of its events. This needs no invariant of the protocol.
 use Prim.Native.Nat.{ℕ, zero, suc, _+_, _*_, _≤_, max}
 use mathlib.Core.Path.{_≡_, refl}
-use mathlib.Core.Bool.{Bool, false, not, _&&_, cond}
+use mathlib.Core.Bool.{Bool, true, false, not, _&&_, cond}
 use mathlib.Core.List.{List, [], _∷_}
 use mathlib.Core.Option.{Option, none, some}
 use native.Mathlib.Omega.{arith}
 use lib.Dec.{eqb, leb}
-use lib.ListN.{length}
-use Rattle.basics.specs.Helpers.{update, first, withoutFirst}
+use Rattle.basics.specs.Helpers.{update, tally, first, withoutFirst}
 use Rattle.protocol.specs.Ask.{Ask, noAsk, isNoAsk}
 use Rattle.protocol.specs.Message.{Message, request, reply, release, handOver, inquire, fail, yield, transfer}
 use Rattle.protocol.specs.Setting.{Setting}
 use Rattle.protocol.specs.Local.{REST, WAITING, INSIDE, Local, View, view, send, withArbiter, withEntries, withQueued}
 use Rattle.protocol.specs.Arbiter.{fromHolder, isEarly, heldByHeir, headOf, beforeHolder, granted, grantedHead, failTo, formerTold, failFormer, inquireOrFail, answers, queuedUp, onRequest, earlyRelease, onRelease, heirTakesOver, onHandOver, onYield}
-use Rattle.protocol.specs.Site.{yielded, entered, taken, failedInquired, onInquire, namesHeld, onTransfer, takes, onReply, mustYield, onFail, handled}
+use Rattle.protocol.specs.Site.{yielded, entered, taken, failedInquired, onInquire, namesHeld, onTransfer, takes, onReply, mustYield, failCounts, onFail, handled}
 use Rattle.protocol.specs.System.{System, settingOf}
-use Rattle.protocol.specs.Rig.{Row, Sent, Rig, rowOf, sentBy, inOrder, channel, Event, ask, leave, deliver, withoutEntries, localAt, rowsTaken, made, asked, left, allHeld, withEffect, delivered, takenOff, step, run, fresh}
+use Rattle.protocol.specs.Rig.{Row, Sent, Rig, rowOf, sentBy, inOrder, channel, Event, ask, leave, deliver, lose, lost, withoutEntries, localAt, rowsTaken, made, asked, left, allHeld, withEffect, delivered, takenOff, step, run, fresh}
 use Rattle.basics.proofs.Basics.{by-bool}
 use Rattle.basics.proofs.Lists.{All, all-append, all-snoc, all-map, all-without}
 use Rattle.protocol.proofs.Invariant.{numberOf}
+use Rattle.protocol.proofs.RigMessages.{all-sentBy, all-inOrder}
+use Rattle.protocol.proofs.Lost.{maybe-lost}
+
+-- an event that document 01 knows: all but lost numbers
+abbrev pub isCounted : Event → Bool
+isCounted (ask s) = true
+isCounted (leave s) = true
+isCounted (deliver a b) = true
+isCounted (lose p) = false
 
 -- of a message
 abbrev pub NumberBelow : ℕ → Message → Type 0
@@ -91,10 +99,10 @@ entered-bounded : (b : ℕ) (t : Local) (k : ℕ) → LocalBelow b t → ViewBel
 unfolding entered
 entered-bounded b t k s = nothing b _ (record { grant = s .grant; holderAsk = s .holderAsk; queued = s .queued; held = s .held; inquired = update-bounded t.inquired k 0 b (omega arith) (s .inquired) })
 
-module _ (p : Setting) (toldBelow : (a : Ask) → p .told a ≤ a.number) where
-  pub onFail-bounded : (b : ℕ) (t : Local) (k : ℕ) → LocalBelow b t → ViewBelow b (onFail p (view t []) k)
+module _ (p : Setting) where
+  pub onFail-bounded : (b : ℕ) (t : Local) (k n : ℕ) → LocalBelow b t → ViewBelow b (onFail p (view t []) k n)
   unfolding onFail
-  onFail-bounded b t k s = by-bool (eqb (t.mode k) WAITING)
+  onFail-bounded b t k n s = by-bool (failCounts t.mode t.ask k n)
       (λ e. by-bool (mustYield p t k)
       (λ f. rw (e, f) (yielded-bounded b t k s))
       (λ f. rw (e, f) (nothing b _ (record { grant = s .grant; holderAsk = s .holderAsk; queued = s .queued; held = s .held; inquired = s .inquired }))))
@@ -116,23 +124,19 @@ module _ (p : Setting) (toldBelow : (a : Ask) → p .told a ≤ a.number) where
       (λ e. rw e (nothing (suc b) t (row-up b (suc b) (rowOf t) (omega arith) s)))
       (λ e. rw e (granted-bounded b t (headOf p t.queued) (t.queued (headOf p t.queued)) (s .queued (headOf p t.queued)) s))
 
-  -- a fail tells no more than the number of its ask
-  fail-bounded : (b : ℕ) (v : View) (k : ℕ) → (v.tables.queued k) .number ≤ b → ViewBelow b v → ViewBelow b (send v (failTo p v.tables k))
-  fail-bounded b v k l s = let z = toldBelow (v.tables.queued k) in send-bounded b v (failTo p v.tables k) (omega arith) s
-
   answers-bounded : (b : ℕ) (t : Local) (k former : ℕ) → LocalBelow b t → ViewBelow b (answers p (view t []) k former)
   unfolding answers failFormer inquireOrFail
   answers-bounded b t k former s = by-bool (eqb (headOf p t.queued) k)
       (λ h. by-bool (formerTold p t k former)
-      (λ e. rw (h, e) (ends _ (s .grant) (fail-bounded b _ former (s .queued former) (nothing b t s))))
+      (λ e. rw (h, e) (ends _ (s .grant) (send-bounded b _ (failTo t former) (s .queued former) (nothing b t s))))
       (λ e. rw (h, e) (ends _ (s .grant) (nothing b t s))))
-      (λ h. rw h (fail-bounded b _ k (s .queued k) (nothing b t s)))
+      (λ h. rw h (send-bounded b _ (failTo t k) (s .queued k) (nothing b t s)))
     where
       ends : (ms : List Message) → t.grant ≤ b → ViewBelow b (view t ms)
-          → ViewBelow b (cond (beforeHolder p t k) (send (send (view t ms) (transfer t.holder k t.grant)) (inquire t.holder t.grant)) (send (send (view t ms) (transfer t.holder k t.grant)) (failTo p t k)))
+          → ViewBelow b (cond (beforeHolder p t k) (send (send (view t ms) (transfer t.holder k t.grant)) (inquire t.holder t.grant)) (send (send (view t ms) (transfer t.holder k t.grant)) (failTo t k)))
       ends ms l w = by-bool (beforeHolder p t k)
           (λ e. rw e (send-bounded b _ (inquire t.holder t.grant) l (send-bounded b _ (transfer t.holder k t.grant) l w)))
-          (λ e. rw e (fail-bounded b _ k (s .queued k) (send-bounded b _ (transfer t.holder k t.grant) l w)))
+          (λ e. rw e (send-bounded b _ (failTo t k) (s .queued k) (send-bounded b _ (transfer t.holder k t.grant) l w)))
 
   onRequest-bounded : (b : ℕ) (t : Local) (k : ℕ) (a : Ask) → a.number ≤ b → LocalBelow b t → ViewBelow (suc b) (onRequest p (view t []) k a)
   unfolding onRequest queuedUp
@@ -200,7 +204,7 @@ module _ (p : Setting) (toldBelow : (a : Ask) → p .told a ≤ a.number) where
   handled-bounded b t ent (release k n) l s = onRelease-bounded b t k n s
   handled-bounded b t ent (handOver k x n) l s = view-up (suc b) _ _ (omega arith) (onHandOver-bounded b t k x n s)
   handled-bounded b t ent (inquire k n) l s = view-up b _ _ (omega arith) (onInquire-bounded b t k n l s)
-  handled-bounded b t ent (fail k n) l s = view-up b _ _ (omega arith) (onFail-bounded b t k s)
+  handled-bounded b t ent (fail k n) l s = view-up b _ _ (omega arith) (onFail-bounded b t k n s)
   handled-bounded b t ent (yield k n) l s = view-up (suc b) _ _ (omega arith) (onYield-bounded b t k n s)
   handled-bounded b t ent (transfer k x n) l s = view-up b _ _ (omega arith) (onTransfer-bounded b t k x n s)
 
@@ -214,22 +218,16 @@ pub record RigBelow (b : ℕ) (r : Rig) : Type 0 where
   pub rows : (j : ℕ) → RowBelow b (r.rows j)
   pub underWay : All (SentBelow b) r.underWay
 
--- of what is sent by many
-all-sentBy : (b j : ℕ) (ms : List Message) → All (NumberBelow b) ms → All (SentBelow b) (sentBy j ms)
-unfolding All sentBy
-all-sentBy b j [] a = tt
-all-sentBy b j (m ∷ ms) a = (a .0, all-sentBy b j ms (a .1))
-
-all-inOrder : (b : ℕ) (f : ℕ → List Message) (n : ℕ) → ((j : ℕ) → All (NumberBelow b) (f j)) → All (SentBelow b) (inOrder f n)
-unfolding All inOrder
-all-inOrder b f zero h = tt
-all-inOrder b f (suc n) h = all-append _ (inOrder f n) (sentBy (suc n) (f (suc n))) (all-inOrder b f n h) (all-sentBy b (suc n) (f (suc n)) (h (suc n)))
+-- of fails without their numbers
+all-lost : (b : ℕ) (p : ℕ → Bool) (xs : List Sent) → All (SentBelow b) xs → All (SentBelow b) (lost p xs)
+unfolding All lost
+all-lost b p [] a = tt
+all-lost b p (x ∷ xs) a = (maybe-lost (λ u v. numberOf u ≤ b → numberOf v ≤ b) (λ u h. h) (λ k n h. omega arith) (p 0) x.message (a .0), all-lost b (λ i. p (suc i)) xs (a .1))
 
 pub rig-up : (b c : ℕ) (r : Rig) → b ≤ c → RigBelow b r → RigBelow c r
 rig-up b c r l s = record { clock = λ k. let z = s .clock k in omega arith; ask = λ k. let z = s .ask k in omega arith; rows = λ j. row-up b c (r.rows j) l (s .rows j); underWay = all-map _ _ r.underWay (λ x h. omega arith) (s .underWay) }
 
--- a fail tells no more than the number of its ask
-module _ (y : System) (toldBelow : (a : Ask) → y.told a ≤ a.number) where
+module _ (y : System) where
   -- each event in turn: at most two more
   withoutEntries-bounded : (b : ℕ) (r : Row) (s : ℕ) → RowBelow b r → RowBelow b (withoutEntries r s)
   withoutEntries-bounded b r s h = record { grant = h .grant; holderAsk = h .holderAsk; queued = h .queued; held = update-bounded r.held s 0 b (omega arith) (h .held); inquired = update-bounded r.inquired s 0 b (omega arith) (h .inquired) }
@@ -243,7 +241,7 @@ module _ (y : System) (toldBelow : (a : Ask) → y.told a ≤ a.number) where
         clock = update-bounded r.clock s (suc (r.clock s)) (suc b) (omega arith) (h .clock);
         ask = asks-bounded r.sites.ask s (made r s) (suc b) (omega arith) (h .ask);
         rows = λ j. withoutEntries-bounded (suc b) (r.rows j) s (h .rows j);
-        underWay = all-append _ r.underWay _ (h .underWay) (all-inOrder (suc b) _ y.size (λ j. by-bool (y.sets s j) (λ e. rw e (omega arith, tt)) (λ e. rw e tt)));
+        underWay = all-append _ r.underWay _ (h .underWay) (all-inOrder (NumberBelow (suc b)) _ y.size (λ j. by-bool (y.sets s j) (λ e. rw e (omega arith, tt)) (λ e. rw e tt)));
       }
 
   left-bounded : (b : ℕ) (r : Rig) (s : ℕ) → RigBelow b r → RigBelow (suc b) (left y r s)
@@ -254,7 +252,7 @@ module _ (y : System) (toldBelow : (a : Ask) → y.told a ≤ a.number) where
         clock = h .clock;
         ask = h .ask;
         rows = λ j. withoutEntries-bounded (suc b) (r.rows j) s (h .rows j);
-        underWay = all-append _ r.underWay _ (h .underWay) (all-inOrder (suc b) _ y.size (λ j. let n = h0 .rows j .held s in
+        underWay = all-append _ r.underWay _ (h .underWay) (all-inOrder (NumberBelow (suc b)) _ y.size (λ j. let n = h0 .rows j .held s in
             by-bool (y.sets s j && not (eqb ((r.rows j) .held s) 0))
             (λ e. by-bool (eqb ((r.rows j) .heir s) 0) (λ f. rw (e, f) (omega arith, tt)) (λ f. rw (e, f) (omega arith, (omega arith, tt))))
             (λ e. rw e tt)));
@@ -264,12 +262,12 @@ module _ (y : System) (toldBelow : (a : Ask) → y.told a ≤ a.number) where
   unfolding update
   withEffect-bounded b r rest clock j m h0 c a l =
       let h = rig-up b (suc (suc b)) r (omega arith) h0 in
-      let v = handled-bounded (settingOf y j) toldBelow b (localAt r j) false m l (h0 .rows j) in
+      let v = handled-bounded (settingOf y j) b (localAt r j) false m l (h0 .rows j) in
       record {
         clock = λ k. let z = c k in omega arith;
         ask = h .ask;
         rows = λ i. by-bool (eqb i j) (λ e. rw e ((v .tables))) (λ e. rw e (h .rows i));
-        underWay = all-append _ rest _ (all-map _ _ rest (λ x z. omega arith) a) (all-sentBy _ j _ (v .messages));
+        underWay = all-append _ rest _ (all-map _ _ rest (λ x z. omega arith) a) (all-sentBy (NumberBelow _) j _ (v .messages));
       }
 
   delivered-bounded : (b : ℕ) (r : Rig) (rest : List Sent) (j : ℕ) (m : Message) → RigBelow b r → All (SentBelow b) rest → numberOf m ≤ b → RigBelow (suc (suc b)) (delivered y r rest j m)
@@ -284,13 +282,13 @@ module _ (y : System) (toldBelow : (a : Ask) → y.told a ≤ a.number) where
   delivered-bounded b r rest j (fail k n) h a l = rig-up b (suc (suc b)) _ (omega arith) (record {
     clock = h .clock;
     ask = h .ask;
-    rows = λ i. ((onFail-bounded (settingOf y i) toldBelow b (localAt r i) k (h .rows i)) .tables);
-    underWay = all-append _ rest _ a (all-inOrder b _ y.size (λ i. (onFail-bounded (settingOf y i) toldBelow b (localAt r i) k (h .rows i)) .messages));
+    rows = λ i. ((onFail-bounded (settingOf y i) b (localAt r i) k n (h .rows i)) .tables);
+    underWay = all-append _ rest _ a (all-inOrder (NumberBelow b) _ y.size (λ i. (onFail-bounded (settingOf y i) b (localAt r i) k n (h .rows i)) .messages));
   })
   delivered-bounded b r rest j (reply f k n) h0 a l =
       let h = rig-up b (suc (suc b)) r (omega arith) h0 in
-      let v = handled-bounded (settingOf y j) toldBelow b (localAt r j) (allHeld y (rowsTaken r j k n) k) (reply f k n) l (h0 .rows j) in
-      let m = all-append _ rest _ (all-map _ _ rest (λ x z. omega arith) a) (all-sentBy _ j _ (v .messages)) in
+      let v = handled-bounded (settingOf y j) b (localAt r j) (allHeld y (rowsTaken r j k n) k) (reply f k n) l (h0 .rows j) in
+      let m = all-append _ rest _ (all-map _ _ rest (λ x z. omega arith) a) (all-sentBy (NumberBelow _) j _ (v .messages)) in
       by-bool (takes (settingOf y j) (localAt r j) k && allHeld y (rowsTaken r j k n) k)
       (λ go. rw go (record {
         clock = h .clock;
@@ -311,6 +309,10 @@ module _ (y : System) (toldBelow : (a : Ask) → y.told a ≤ a.number) where
   takenOff-bounded b r a c none e h = rig-up b _ r (omega arith) h
   takenOff-bounded b r a c (some x) e h = let m = all-without (channel a c) (SentBelow b) r.underWay x e (h .underWay) in delivered-bounded b r (withoutFirst (channel a c) r.underWay) x.arbiter x.message h (m .1) (m .0)
 
+  lose-bounded : (b : ℕ) (r : Rig) (p : ℕ → Bool) → RigBelow b r → RigBelow b (step y r (lose p))
+  unfolding step
+  lose-bounded b r p h = record { clock = h .clock; ask = h .ask; rows = h .rows; underWay = all-lost b p r.underWay (h .underWay) }
+
   pub step-bounded : (b : ℕ) (r : Rig) (e : Event) → RigBelow b r → RigBelow (suc (suc b)) (step y r e)
   unfolding step
   step-bounded b r (ask s) h = by-bool ((leb 1 s && leb s y.size) && eqb (r.sites.mode s) REST)
@@ -318,14 +320,18 @@ module _ (y : System) (toldBelow : (a : Ask) → y.told a ≤ a.number) where
   step-bounded b r (leave s) h = by-bool (eqb (r.sites.mode s) INSIDE)
       (λ e. rw e (rig-up (suc b) _ _ (omega arith) (left-bounded b r s h))) (λ e. rw e (rig-up b _ r (omega arith) h))
   step-bounded b r (deliver a c) h = takenOff-bounded b r a c (first (channel a c) r.underWay) refl h
+  step-bounded b r (lose p) h = rig-up b _ _ (omega arith) (lose-bounded b r p h)
 
-  -- so a run adds at most two for each event
-  pub run-bounded : (es : List Event) (b : ℕ) (r : Rig) → RigBelow b r → RigBelow (b + 2 * length es) (run y es r)
-  unfolding run
+  -- so a run adds at most two for each event that is counted
+  pub run-bounded : (es : List Event) (b : ℕ) (r : Rig) → RigBelow b r → RigBelow (b + 2 * tally isCounted es) (run y es r)
+  unfolding run tally
   run-bounded [] b r h = rig-up b _ r (omega arith) h
-  run-bounded (e ∷ es) b r h = rig-up (suc (suc b) + 2 * length es) _ _ (omega arith) (run-bounded es (suc (suc b)) (step y r e) (step-bounded b r e h))
+  run-bounded (ask s ∷ es) b r h = rig-up (suc (suc b) + 2 * tally isCounted es) _ _ (omega arith) (run-bounded es (suc (suc b)) _ (step-bounded b r (ask s) h))
+  run-bounded (leave s ∷ es) b r h = rig-up (suc (suc b) + 2 * tally isCounted es) _ _ (omega arith) (run-bounded es (suc (suc b)) _ (step-bounded b r (leave s) h))
+  run-bounded (deliver a c ∷ es) b r h = rig-up (suc (suc b) + 2 * tally isCounted es) _ _ (omega arith) (run-bounded es (suc (suc b)) _ (step-bounded b r (deliver a c) h))
+  run-bounded (lose p ∷ es) b r h = rig-up (b + 2 * tally isCounted es) _ _ (omega arith) (run-bounded es b _ (lose-bounded b r p h))
 
   -- every clock and number of a run is at most twice its events
-  pub run-numbers : (es : List Event) → RigBelow (2 * length es) (run y es fresh)
+  pub run-numbers : (es : List Event) → RigBelow (2 * tally isCounted es) (run y es fresh)
   unfolding fresh All
-  run-numbers es = rig-up (0 + 2 * length es) (2 * length es) _ (omega arith) (run-bounded es 0 fresh (record { clock = λ k. omega arith; ask = λ k. omega arith; rows = λ j. record { grant = omega arith; holderAsk = omega arith; queued = λ k. omega arith; held = λ k. omega arith; inquired = λ k. omega arith }; underWay = tt }))
+  run-numbers es = rig-up (0 + 2 * tally isCounted es) (2 * tally isCounted es) _ (omega arith) (run-bounded es 0 fresh (record { clock = λ k. omega arith; ask = λ k. omega arith; rows = λ j. record { grant = omega arith; holderAsk = omega arith; queued = λ k. omega arith; held = λ k. omega arith; inquired = λ k. omega arith }; underWay = tt }))

@@ -13,7 +13,7 @@ use Rattle.protocol.specs.Message.{Message, request, reply, release, han
 use Rattle.protocol.specs.Setting.{Setting}
 use Rattle.protocol.specs.Local.{WAITING, Local, View, view, withArbiter, withQueued}
 use Rattle.protocol.specs.Arbiter.{fromHolder, isEarly, headOf, beforeHolder, granted, grantedHead, formerTold, failFormer, inquireOrFail, answers, queuedUp, onRequest, earlyRelease, onRelease, heirTakesOver, onHandOver, onYield}
-use Rattle.protocol.specs.Site.{yielded, entered, taken, failedInquired, onInquire, namesHeld, onTransfer, takes, onReply, mustYield, onFail, handled}
+use Rattle.protocol.specs.Site.{yielded, entered, taken, failedInquired, onInquire, namesHeld, onTransfer, takes, onReply, mustYield, failCounts, onFail, handled}
 use Rattle.protocol.specs.Rig.{localOf, rowOf, sitesOf}
 use Rattle.basics.proofs.Basics.{by-bool, clash, and-split, update-marked}
 
@@ -107,11 +107,11 @@ module _ (p : Setting) where
       (λ e. rw e (rw append-nil, λ i h. h))
 
   -- a fail
-  pub onFail-row : (t : Local) (b : ℕ) (ms : List Message)
-      → (onFail p (view t ms) b ≡ view (localOf (record { mode = t.mode; ask = t.ask; failed = cond (eqb (t.mode b) WAITING) (update t.failed b true) t.failed }) (rowOf ((onFail p (view t []) b) .tables))) (ms ++ (onFail p (view t []) b) .messages))
-      × ((k : ℕ) → t.held k ≡ 0 → (onFail p (view t []) b) .tables .held k ≡ 0)
+  pub onFail-row : (t : Local) (b n : ℕ) (ms : List Message)
+      → (onFail p (view t ms) b n ≡ view (localOf (record { mode = t.mode; ask = t.ask; failed = cond (failCounts t.mode t.ask b n) (update t.failed b true) t.failed }) (rowOf ((onFail p (view t []) b n) .tables))) (ms ++ (onFail p (view t []) b n) .messages))
+      × ((k : ℕ) → t.held k ≡ 0 → (onFail p (view t []) b n) .tables .held k ≡ 0)
   unfolding onFail yielded
-  onFail-row t b ms = by-bool (eqb (t.mode b) WAITING)
+  onFail-row t b n ms = by-bool (failCounts t.mode t.ask b n)
       (λ e. by-bool (mustYield p t b)
       (λ f. rw (e, f) (refl, λ i z. cleared-held t b i z))
       (λ f. rw (e, f) (rw append-nil, λ i h. h)))

@@ -14,7 +14,7 @@ use Rattle.protocol.specs.Message.{Message, inquire, INQUIRE, kind, rout
 use Rattle.protocol.specs.Setting.{Setting}
 use Rattle.basics.proofs.Basics.{by-bool, clash, and-split}
 use Rattle.basics.proofs.Lists.{All, all-map, first-holds, snoc-keep, snoc-zero}
-use Rattle.protocol.proofs.Invariant.{siteOf, numberOf, isFailTo, isInquireTo, isInquire, Ascending, Situation, Column, UnderWay, Owed}
+use Rattle.protocol.proofs.Invariant.{siteOf, numberOf, isFailFor, isInquireTo, isInquire, Ascending, Situation, Column, UnderWay, Owed}
 use Rattle.protocol.proofs.Sending.{route-from}
 use Rattle.protocol.proofs.Fitting.{fits-inquire}
 
@@ -81,17 +81,17 @@ module _ (p : Setting) where
   inquired-low {g} {inquired = inquired} c k = by-bool (eqb (inquired k) 0) (λ e. let y = eqb-true (inquired k) 0 e in omega arith) (λ e. c .remembered k (eqb-false (inquired k) 0 e) .2)
 
   -- one more message that is no inquire
-  pub owed-send : {g holder : ℕ} {holderAsk : Ask} {q : ℕ → Ask} {failed : ℕ → Bool} {inquired : ℕ → ℕ} {owner d stage : ℕ} {known : ℕ → ℕ} (ms : List Message) (m : Message) → ((k : ℕ) → isInquireTo k m ≡ false)
-      → Owed p g holder holderAsk q failed inquired owner d stage known ms → Owed p g holder holderAsk q failed inquired owner d stage known (ms ++ m ∷ [])
-  owed-send {g} {inquired = inquired} {owner = owner} ms m n l = record {
-    failOwed = λ k a b c d. l .failOwed k a b c (snoc-zero (isFailTo k) ms m d);
+  pub owed-send : {g holder : ℕ} {holderAsk : Ask} {q ask : ℕ → Ask} {failed : ℕ → Bool} {inquired : ℕ → ℕ} {owner d stage : ℕ} {known : ℕ → ℕ} (ms : List Message) (m : Message) → ((k : ℕ) → isInquireTo k m ≡ false)
+      → Owed p g holder holderAsk q ask failed inquired owner d stage known ms → Owed p g holder holderAsk q ask failed inquired owner d stage known (ms ++ m ∷ [])
+  owed-send {g} {ask = ask} {inquired = inquired} {owner = owner} ms m n l = record {
+    failOwed = λ k a b c d. l .failOwed k a b c (snoc-zero (isFailFor k (ask k)) ms m d);
     inquireOwed = λ a b c d e f h. snoc-keep (isInquire owner g) ms m (l .inquireOwed a b c d e f h);
     ascending = λ k. ascending-other k (inquired k) ms m (n k) (l .ascending k);
   }
 
   -- the ghosts put to the names at hand
-  pub fix-owed : {g holder : ℕ} {holderAsk : Ask} {q : ℕ → Ask} {failed : ℕ → Bool} {inquired : ℕ → ℕ} {known : ℕ → ℕ} {ms : List Message} (owner d stage b e s : ℕ) → b ≡ owner → e ≡ d → s ≡ stage
-      → Owed p g holder holderAsk q failed inquired owner d stage known ms → Owed p g holder holderAsk q failed inquired b e s known ms
+  pub fix-owed : {g holder : ℕ} {holderAsk : Ask} {q ask : ℕ → Ask} {failed : ℕ → Bool} {inquired : ℕ → ℕ} {known : ℕ → ℕ} {ms : List Message} (owner d stage b e s : ℕ) → b ≡ owner → e ≡ d → s ≡ stage
+      → Owed p g holder holderAsk q ask failed inquired owner d stage known ms → Owed p g holder holderAsk q ask failed inquired b e s known ms
   fix-owed owner d stage b e s x y z l = rw (x, y, z) l
 
   -- the inquire remembered at b is forgotten

@@ -13,9 +13,9 @@ use Rattle.basics.specs.Helpers.{update, first, withoutFirst}
 use Rattle.protocol.specs.Message.{Message, request, reply, release, handOver, inquire, fail, yield, transfer, between}
 use Rattle.protocol.specs.Setting.{Setting}
 use Rattle.protocol.specs.Local.{REST, WAITING, INSIDE, Local, view}
-use Rattle.protocol.specs.Site.{yielded, entered, takes, onReply, mustYield, onFail, handled}
+use Rattle.protocol.specs.Site.{yielded, entered, takes, onReply, mustYield, failCounts, onFail, handled}
 use Rattle.protocol.specs.System.{System, Lawful, settingOf}
-use Rattle.protocol.specs.Rig.{Row, Sent, Rig, messagesOf, sent, sentBy, inOrder, channel, Event, ask, leave, deliver, localAt, rowsTaken, withoutInquired, made, requests, asked, handOns, left, allHeld, effect, withEffect, failSeen, delivered, takenOff, step, run, fresh}
+use Rattle.protocol.specs.Rig.{Row, Sent, Rig, messagesOf, sent, sentBy, inOrder, channel, Event, ask, leave, deliver, lose, localAt, rowsTaken, withoutInquired, made, requests, asked, handOns, left, allHeld, effect, withEffect, failSeen, delivered, takenOff, step, run, fresh}
 use Rattle.basics.proofs.Basics.{by-bool, clash, and-split, and-true, all-at, all-false}
 use Rattle.protocol.proofs.Invariant.{Invariant}
 use Rattle.protocol.proofs.Seen.{askSeen, leaveSeen, viewOf, law-of}
@@ -25,6 +25,7 @@ use Rattle.protocol.proofs.Kept.Ask.{askSeen-kept}
 use Rattle.protocol.proofs.Kept.Leave.{leaveSeen-kept}
 use Rattle.protocol.proofs.EveryMessage.{freshView, first-invariant, handled-kept, fresh-invariant}
 use Rattle.protocol.proofs.Clauses.{FitsTables}
+use Rattle.protocol.proofs.Lost.{messages-lost, lost-kept}
 use Rattle.protocol.proofs.OneRow.{Simple, onFail-row, onReply-row, reply-held, handled-row}
 use Rattle.protocol.proofs.RigMessages.{messages-append, messages-sentBy, messages-other, first-messages, without-messages, without-other, messages-all}
 use Rattle.protocol.proofs.RigInvariant.{RigInvariant, first-fits, arbiter-range, not-member}
@@ -103,17 +104,17 @@ module _ (y : System) (lw : Lawful y) where
       }
 
   -- an arbiter outside the set sends nothing on a fail, and no arbiter changes its grant number
-  onFail-silent : (p : Setting) (t : Local) (b : ℕ) → p .member b ≡ false → (onFail p (view t []) b) .messages ≡ []
+  onFail-silent : (p : Setting) (t : Local) (b n : ℕ) → p .member b ≡ false → (onFail p (view t []) b n) .messages ≡ []
   unfolding onFail
-  onFail-silent p t b h = by-bool (eqb (t.mode b) WAITING) (λ e. rw (e, h)) (λ e. rw e)
+  onFail-silent p t b n h = by-bool (failCounts t.mode t.ask b n) (λ e. rw (e, h)) (λ e. rw e)
 
-  onFail-grant : (p : Setting) (t : Local) (b : ℕ) → (onFail p (view t []) b) .tables .grant ≡ t.grant
+  onFail-grant : (p : Setting) (t : Local) (b n : ℕ) → (onFail p (view t []) b n) .tables .grant ≡ t.grant
   unfolding onFail yielded
-  onFail-grant p t b = by-bool (eqb (t.mode b) WAITING) (λ e. by-bool (mustYield p t b) (λ f. rw (e, f)) (λ f. rw (e, f))) (λ e. rw e)
+  onFail-grant p t b n = by-bool (failCounts t.mode t.ask b n) (λ e. by-bool (mustYield p t b) (λ f. rw (e, f)) (λ f. rw (e, f))) (λ e. rw e)
 
   -- a fail, at its own arbiter
   fail-own-arbiter : (r : Rig) (a b j k n : ℕ) → first (channel a b) r.underWay ≡ some (sent j (fail k n)) → RigInvariant y r
-      → Invariant (settingOf y j) (onFail (settingOf y j) (view (localAt r j) (messagesOf j (withoutFirst (channel a b) r.underWay))) k)
+      → Invariant (settingOf y j) (onFail (settingOf y j) (view (localAt r j) (messagesOf j (withoutFirst (channel a b) r.underWay))) k n)
   unfolding handled
   fail-own-arbiter r a b j k n f w = own-arbiter-kept r a b (sent j (fail k n)) false f w
 
@@ -123,24 +124,24 @@ module _ (y : System) (lw : Lawful y) where
   fail-kept r a b j k n f w =
       let x : Sent = sent j (fail k n) in
       let rest = withoutFirst (channel a b) r.underWay in
-      let F : ℕ → List Message = λ i. (failSeen y r k i) .messages in
+      let F : ℕ → List Message = λ i. (failSeen y r k n i) .messages in
       record {
         arbiters = λ i.
             let t = localAt r i in
-            rw (messages-append i rest (inOrder F y.size), messages-all i y.size F (λ h. onFail-silent (settingOf y i) t k (not-member y lw k i h)))
-            (rw (onFail-row (settingOf y i) t k (messagesOf i rest) .0) at (fail-seen r a b j k n f w i));
+            rw (messages-append i rest (inOrder F y.size), messages-all i y.size F (λ h. onFail-silent (settingOf y i) t k n (not-member y lw k i h)))
+            (rw (onFail-row (settingOf y i) t k n (messagesOf i rest) .0) at (fail-seen r a b j k n f w i));
         inRange = w .inRange;
         modeRange = w .modeRange;
         clockInRange = w .clockInRange;
-        grantInRange = λ i h. w .grantInRange i (λ z. h (onFail-grant (settingOf y i) (localAt r i) k ∙ z));
-        lacksOne = λ i m. let (j0, s, h) = w .lacksOne i m in (j0, s, onFail-row (settingOf y j0) (localAt r j0) k [] .1 i h);
+        grantInRange = λ i h. w .grantInRange i (λ z. h (onFail-grant (settingOf y i) (localAt r i) k n ∙ z));
+        lacksOne = λ i m. let (j0, s, h) = w .lacksOne i m in (j0, s, onFail-row (settingOf y j0) (localAt r j0) k n [] .1 i h);
       }
     where
       fail-seen : (r : Rig) (a b j k n : ℕ) → first (channel a b) r.underWay ≡ some (sent j (fail k n)) → RigInvariant y r → (i : ℕ)
-          → Invariant (settingOf y i) (onFail (settingOf y i) (view (localAt r i) (messagesOf i (withoutFirst (channel a b) r.underWay))) k)
+          → Invariant (settingOf y i) (onFail (settingOf y i) (view (localAt r i) (messagesOf i (withoutFirst (channel a b) r.underWay))) k n)
       fail-seen r a b j k n f w i = by-bool (eqb i j)
           (λ e. rw (eqb-true i j e) (fail-own-arbiter r a b j k n f w))
-          (λ e. rw (without-other a b i r.underWay (sent j (fail k n)) f (eqb-false i j e)) (failSeen-kept (settingOf y i) (localAt r i) k (messagesOf i r.underWay) (w .arbiters i)))
+          (λ e. rw (without-other a b i r.underWay (sent j (fail k n)) f (eqb-false i j e)) (failSeen-kept (settingOf y i) (localAt r i) k n (messagesOf i r.underWay) (w .arbiters i)))
 
   -- a reply, at its own arbiter
   reply-own-arbiter : (r : Rig) (a b j u k n : ℕ) (e : Bool) → first (channel a b) r.underWay ≡ some (sent j (reply u k n)) → RigInvariant y r
@@ -262,6 +263,14 @@ module _ (y : System) (lw : Lawful y) where
       (λ e. rw e w)
   step-kept r (leave s) w = by-bool (eqb (r.sites.mode s) INSIDE) (λ e. rw e (left-kept r s (eqb-true (r.sites.mode s) INSIDE e) w)) (λ e. rw e w)
   step-kept r (deliver a b) w = takenOff-kept r a b (first (channel a b) r.underWay) refl w
+  step-kept r (lose p) w = record {
+    arbiters = λ j. lost-kept (settingOf y j) (localAt r j) _ _ (messages-lost j p r.underWay) (w .arbiters j);
+    inRange = w .inRange;
+    modeRange = w .modeRange;
+    clockInRange = w .clockInRange;
+    grantInRange = w .grantInRange;
+    lacksOne = w .lacksOne;
+  }
 
   -- every state of a run
   pub run-kept : (es : List Event) (r : Rig) → RigInvariant y r → RigInvariant y (run y es r)

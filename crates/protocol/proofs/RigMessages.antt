@@ -12,7 +12,7 @@ use Rattle.basics.specs.Helpers.{first, withoutFirst}
 use Rattle.protocol.specs.Message.{Message, between}
 use Rattle.protocol.specs.Rig.{Sent, messagesOf, sentBy, inOrder, channel}
 use Rattle.basics.proofs.Basics.{by-bool}
-use Rattle.basics.proofs.Lists.{All}
+use Rattle.basics.proofs.Lists.{All, all-append}
 
 -- a longer list
 pub messages-append : (j : ℕ) (xs ys : List Sent) → messagesOf j (xs ++ ys) ≡ messagesOf j xs ++ messagesOf j ys
@@ -43,6 +43,18 @@ messages-inOrder j zero f a b = absurd (omega arith)
 messages-inOrder j (suc n) f a b = by-bool (eqb j (suc n))
     (λ e. let je = eqb-true j (suc n) e in rw je (rw (messages-append, messages-none (suc n) n f (λ x y. omega arith), messages-sentBy (suc n) (f (suc n)))))
     (λ e. let ne = eqb-false j (suc n) e in rw (messages-append, messages-inOrder j n f a (omega arith), messages-other j (suc n) (f (suc n)) ne) (append-nil (f j)))
+
+-- what holds of each message that is sent, by one arbiter and by all
+module _ (P : Message → Type 0) where
+  pub all-sentBy : (j : ℕ) (ms : List Message) → All P ms → All (λ x. P x.message) (sentBy j ms)
+  unfolding All sentBy
+  all-sentBy j [] a = tt
+  all-sentBy j (m ∷ ms) a = (a .0, all-sentBy j ms (a .1))
+
+  pub all-inOrder : (f : ℕ → List Message) (n : ℕ) → ((j : ℕ) → All P (f j)) → All (λ x. P x.message) (inOrder f n)
+  unfolding All inOrder
+  all-inOrder f zero h = tt
+  all-inOrder f (suc n) h = all-append _ (inOrder f n) (sentBy (suc n) (f (suc n))) (all-inOrder f n h) (all-sentBy (suc n) (f (suc n)) (h (suc n)))
 
 -- what is taken off is the first of its channel also for its arbiter
 pub first-messages : (a b : ℕ) (xs : List Sent) (x : Sent) → first (channel a b) xs ≡ some x → first (between x.arbiter a b) (messagesOf x.arbiter xs) ≡ some x.message

@@ -22,6 +22,10 @@ isEarly t k n = eqb n (suc t.grant) && not (isNoAsk (t.queued k))
 abbrev pub heldByHeir : Local → ℕ → Local
 heldByHeir t x = withArbiter t (suc t.grant) x (t.queued x) (update t.queued x noAsk)
 
+-- a fail to site k, for its queued ask
+abbrev pub failTo : Local → ℕ → Message
+failTo t k = fail k ((t.queued k) .number)
+
 module _ (p : Setting) where
   -- queued site k comes before queued site h
   abbrev pub goesFirst : (ℕ → Ask) → ℕ → ℕ → Bool
@@ -60,10 +64,6 @@ module _ (p : Setting) where
   grantedHead v =
       let h = headOf v.tables.queued in
       cond (eqb h 0) v (granted v h (v.tables.queued h))
-
-  -- a fail to site k, for its queued ask
-  abbrev pub failTo : Local → ℕ → Message
-  failTo t k = fail k (p .told (t.queued k))
 
   -- "fail to the former head (before k was queued), if there was one other than k and it comes before the holder"
   abbrev pub formerTold : Local → ℕ → ℕ → Bool

@@ -31,7 +31,7 @@ module _ (y : System) where
     -- "A rig is stuck if no message is under way, no site is inside and a site is waiting."
     pub notStuck : r.underWay ≡ [] → ((k : ℕ) → r.sites.mode k ≢ INSIDE) → (k : ℕ) → r.sites.mode k ≢ WAITING
 
--- Demand 3: for every family that setup passes, every order of asks, whatever a fail tells, and every list of events from the fresh
--- state
+-- Demand 3: for every family that setup passes, every order of asks, and every list of events from the fresh state, also where fails lose
+-- their numbers between them
 unfoldable pub Claim : Type 0
 Claim = (y : System) → Lawful y → (es : List Event) → Sound y (run y es fresh)

@@ -12,7 +12,7 @@ pub data Message : Type 0 where
   release : ℕ → ℕ → Message  -- site, grant number
   handOver : ℕ → ℕ → ℕ → Message  -- site, heir, grant number
   inquire : ℕ → ℕ → Message  -- site, grant number
-  fail : ℕ → ℕ → Message  -- site, what the system tells of the ask that is failed (`told`): 0 in document 01
+  fail : ℕ → ℕ → Message  -- site, the number of its ask that is failed; 0 where the number is lost
   yield : ℕ → ℕ → Message  -- site, grant number
   transfer : ℕ → ℕ → ℕ → Message  -- site, heir, grant number
 

@@ -8,7 +8,7 @@ use Rattle.basics.specs.Helpers.{update, all, first, withoutFirst}
 use Rattle.protocol.specs.Ask.{Ask, askWith, noAsk}
 use Rattle.protocol.specs.Message.{Message, request, reply, release, handOver, inquire, fail, yield, transfer, between}
 use Rattle.protocol.specs.Local.{REST, WAITING, INSIDE, Local, View, view}
-use Rattle.protocol.specs.Site.{taken, takes, onFail, handled}
+use Rattle.protocol.specs.Site.{taken, takes, failCounts, onFail, handled}
 use Rattle.protocol.specs.System.{System, settingOf}
 
 -- arbiter j's row, and its column of the tables held, heir and inquired
@@ -69,11 +69,28 @@ inOrder f (suc n) = inOrder f n ++ sentBy (suc n) (f (suc n))
 abbrev pub channel : ℕ → ℕ → Sent → Bool
 channel a b x = between x.arbiter a b x.message
 
--- what may happen
+-- what may happen; `lose`: the fails at the places that are named, from 0, lose their numbers
 pub data Event : Type 0 where
   ask : ℕ → Event
   leave : ℕ → Event
   deliver : ℕ → ℕ → Event
+  lose : (ℕ → Bool) → Event
+
+-- a message without its number, if it is a fail
+abbrev pub unnumbered : Message → Message
+unnumbered (request k a) = request k a
+unnumbered (reply f k n) = reply f k n
+unnumbered (release k n) = release k n
+unnumbered (handOver k x n) = handOver k x n
+unnumbered (inquire k n) = inquire k n
+unnumbered (fail k n) = fail k 0
+unnumbered (yield k n) = yield k n
+unnumbered (transfer k x n) = transfer k x n
+
+-- the messages once the fails at the places that p names, from 0, have lost their numbers
+unfoldable pub lost : (ℕ → Bool) → List Sent → List Sent
+lost p [] = []
+lost p (x ∷ xs) = sent x.arbiter (cond (p 0) (unnumbered x.message) x.message) ∷ lost (λ i. p (suc i)) xs
 
 -- "All three entries of every member, held or not, are cleared.": those that site s has for the one arbiter of this row
 abbrev pub withoutEntries : Row → ℕ → Row
@@ -146,9 +163,9 @@ module _ (y : System) where
     underWay = rest ++ sentBy j ((effect r j false m) .messages);
   }
 
-  -- a fail to b, as arbiter i sees it
-  abbrev pub failSeen : Rig → ℕ → ℕ → View
-  failSeen r b i = onFail (settingOf y i) (view (localAt r i) []) b
+  -- a fail to b with number n, as arbiter i sees it
+  abbrev pub failSeen : Rig → ℕ → ℕ → ℕ → View
+  failSeen r b n i = onFail (settingOf y i) (view (localAt r i) []) b n
 
   -- what the message m of arbiter j makes of the rig; rest is the list without it. A request raises the clock of the site that is the
   -- arbiter; a fail may be followed by yields to every arbiter; a reply may let its site enter, and
@@ -161,10 +178,10 @@ module _ (y : System) where
   delivered r rest j (inquire k n) = withEffect r rest r.clock j (inquire k n)
   delivered r rest j (transfer k x n) = withEffect r rest r.clock j (transfer k x n)
   delivered r rest j (fail b n) = record {
-    sites = record { mode = r.sites.mode; ask = r.sites.ask; failed = cond (eqb (r.sites.mode b) WAITING) (update r.sites.failed b true) r.sites.failed };
+    sites = record { mode = r.sites.mode; ask = r.sites.ask; failed = cond (failCounts r.sites.mode r.sites.ask b n) (update r.sites.failed b true) r.sites.failed };
     clock = r.clock;
-    rows = λ i. rowOf ((failSeen r b i) .tables);
-    underWay = rest ++ inOrder (λ i. (failSeen r b i) .messages) y.size;
+    rows = λ i. rowOf ((failSeen r b n i) .tables);
+    underWay = rest ++ inOrder (λ i. (failSeen r b n i) .messages) y.size;
   }
   delivered r rest j (reply f b n) =
       let e = allHeld (rowsTaken r j b n) b in
@@ -181,11 +198,12 @@ module _ (y : System) where
   takenOff r a b none = r
   takenOff r a b (some x) = delivered r (withoutFirst (channel a b) r.underWay) x.arbiter x.message
 
-  -- an ask by a site at rest, a leave by a site inside, a delivery; an event that is refused changes nothing
+  -- an ask by a site at rest, a leave by a site inside, a delivery, numbers lost; an event that is refused changes nothing
   unfoldable pub step : Rig → Event → Rig
   step r (ask s) = cond ((leb 1 s && leb s y.size) && eqb (r.sites.mode s) REST) (asked r s) r
   step r (leave s) = cond (eqb (r.sites.mode s) INSIDE) (left r s) r
   step r (deliver a b) = takenOff r a b (first (channel a b) r.underWay)
+  step r (lose p) = record { sites = r.sites; clock = r.clock; rows = r.rows; underWay = lost p r.underWay }
 
   -- "each later one the state and the list under way that the one before it left"
   unfoldable pub run : List Event → Rig → Rig

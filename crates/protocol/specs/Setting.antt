@@ -5,15 +5,13 @@ use mathlib.Core.Logic.{_≢_}
 use mathlib.Core.Bool.{Bool, true, false}
 use Rattle.protocol.specs.Ask.{Ask}
 
--- how many sites there are, the arbiter, the sites that have it in their request set, the order of asks, and the number that a fail
--- tells of an ask (`told`). member k says that the arbiter is a member of the set of site k; comesBefore a k b l says that the ask a
--- of site k comes before the ask b of site l.
+-- how many sites there are, the arbiter, the sites that have it in their request set, and the order of asks. member k says that the
+-- arbiter is a member of the set of site k; comesBefore a k b l says that the ask a of site k comes before the ask b of site l.
 pub record Setting : Type 0 where
   pub size : ℕ
   pub arbiter : ℕ
   pub member : ℕ → Bool
   pub comesBefore : Ask → ℕ → Ask → ℕ → Bool
-  pub told : Ask → ℕ
 
 -- The rules below work without these laws; the proofs need them. Of the order nothing is assumed but that it is strict, transitive
 -- and total between different sites.

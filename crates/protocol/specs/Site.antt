@@ -1,9 +1,9 @@
 -- Document 01, "One event": what a site does with a reply, an inquire, a fail or a transfer, as far as it concerns this arbiter.
 use Prim.Native.Nat.{ℕ}
-use mathlib.Core.Bool.{Bool, true, false, not, _&&_, cond}
+use mathlib.Core.Bool.{Bool, true, false, not, _&&_, _||_, cond}
 use lib.Dec.{eqb}
 use Rattle.basics.specs.Helpers.{update}
-use Rattle.protocol.specs.Ask.{noAsk}
+use Rattle.protocol.specs.Ask.{Ask, noAsk}
 use Rattle.protocol.specs.Message.{Message, request, reply, release, handOver, inquire, fail, yield, transfer}
 use Rattle.protocol.specs.Setting.{Setting}
 use Rattle.protocol.specs.Local.{WAITING, INSIDE, Local, View, view, send, withSites, withEntries, withoutEntry}
@@ -55,6 +55,18 @@ onTransfer v b x n =
     let t = v.tables in
     cond (namesHeld t b n) (view (withEntries t t.held (update t.heir b x) t.inquired) v.messages) v
 
+-- a fail with number n has lost its number
+abbrev pub isLost : ℕ → Bool
+isLost n = eqb n 0
+
+-- it has, or is for the ask a
+abbrev pub answersAsk : Ask → ℕ → Bool
+answersAsk a n = isLost n || eqb n a.number
+
+-- Request 2.3: a fail to site b counts where b waits, with the ask that the fail is for
+abbrev pub failCounts : (ℕ → ℕ) → (ℕ → Ask) → ℕ → ℕ → Bool
+failCounts mode ask b n = eqb (mode b) WAITING && answersAsk (ask b) n
+
 module _ (p : Setting) where
   -- "Reply about j, to a waiting site with member j not held"
   abbrev pub takes : Local → ℕ → Bool
@@ -77,21 +89,21 @@ module _ (p : Setting) where
 
   -- "Fail to a waiting site: failed is set; every held member with a remembered inquire is yielded": what this arbiter sees of it,
   -- whichever arbiter sent the fail
-  unfoldable pub onFail : View → ℕ → View
-  onFail v b =
+  unfoldable pub onFail : View → ℕ → ℕ → View
+  onFail v b n =
       let t = v.tables in
-      cond (eqb (t.mode b) WAITING)
+      cond (failCounts t.mode t.ask b n)
       (cond (mustYield t b) (yielded v b)
       (view (withSites t t.mode t.ask (update t.failed b true)) v.messages))
       v
 
-  -- each kind by its rule; the message is off the list, allHeld matters for a reply only, and the number of a fail is not read
+  -- each kind by its rule; the message is off the list, and allHeld matters for a reply only
   unfoldable pub handled : View → Bool → Message → View
   handled v allHeld (request k a) = onRequest p v k a
   handled v allHeld (reply f k n) = onReply v k n allHeld
   handled v allHeld (release k n) = onRelease p v k n
   handled v allHeld (handOver k x n) = onHandOver p v k x n
   handled v allHeld (inquire k n) = onInquire v k n
-  handled v allHeld (fail k n) = onFail v k
+  handled v allHeld (fail k n) = onFail v k n
   handled v allHeld (yield k n) = onYield p v k n
   handled v allHeld (transfer k x n) = onTransfer v k x n

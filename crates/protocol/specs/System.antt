@@ -1,5 +1,5 @@
--- What does not change in a run: the family of request sets, the order of asks, and what a fail tells. What is assumed of
--- them: what setup checks of the sets, and the laws of the order.
+-- What does not change in a run: the family of request sets and the order of asks. What is assumed of them: what setup checks of the
+-- sets, and the laws of the order.
 use Prim.Native.Nat.{ℕ, _≤_}
 use mathlib.Core.Path.{_≡_}
 use mathlib.Core.Logic.{_≢_}
@@ -12,7 +12,6 @@ pub record System : Type 0 where
   pub size : ℕ
   pub sets : ℕ → ℕ → Bool
   pub comesBefore : Ask → ℕ → Ask → ℕ → Bool
-  pub told : Ask → ℕ
 
 pub record Lawful (y : System) : Type 0 where
   -- "Each site has a request set of sites, its members."
@@ -29,4 +28,4 @@ pub record Lawful (y : System) : Type 0 where
 
 -- the part of it that concerns arbiter j
 abbrev pub settingOf : System → ℕ → Setting
-settingOf y j = record { size = y.size; arbiter = j; member = λ k. y.sets k j; comesBefore = y.comesBefore; told = y.told }
+settingOf y j = record { size = y.size; arbiter = j; member = λ k. y.sets k j; comesBefore = y.comesBefore }

@@ -1,6 +1,7 @@
 -- Document 01, "The tables": "A message is kind, from, to, about, number. Kinds: 1 request, 2 reply, 3 release, 4 inquire,
 -- 5 fail, 6 yield, 7 transfer. `about` is the arbiter in a reply, the heir in a transfer, the heir or 0 in a release,
--- otherwise 0. `number` is 0 in a fail, else at least 1: the sequence number in a request, otherwise a grant number."
+-- otherwise 0." Request 2.3: `number` is the sequence number in a request and in a fail, otherwise a grant number. It is at least 1, but 0 in a
+-- fail of an earlier version.
 use Prim.Native.Nat.{ℕ, _≤_}
 use mathlib.Core.Path.{_≡_}
 use Rattle.rig.specs.declared.Message.{Message}
@@ -40,8 +41,8 @@ release from to heir grant = record { kind = RELEASE; from = from; to = to; abou
 abbrev pub inquire : ℕ → ℕ → ℕ → Message
 inquire from to grant = record { kind = INQUIRE; from = from; to = to; about = 0; number = grant }
 
-abbrev pub fail : ℕ → ℕ → Message
-fail from to = record { kind = FAIL; from = from; to = to; about = 0; number = 0 }
+abbrev pub fail : ℕ → ℕ → ℕ → Message
+fail from to seq = record { kind = FAIL; from = from; to = to; about = 0; number = seq }
 
 abbrev pub yield : ℕ → ℕ → ℕ → Message
 yield from to grant = record { kind = YIELD; from = from; to = to; about = 0; number = grant }

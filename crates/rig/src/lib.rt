@@ -189,15 +189,16 @@ impl Message {
         }
     }
 
-    pub fn fail(from: u64, to: u64) -> Message
-        ensures { λ r. ⌜ r ≡ fail from to ⌝ }
+    // The number is that of the ask which the fail answers.
+    pub fn fail(from: u64, to: u64, asked: u64) -> Message
+        ensures { λ r. ⌜ r ≡ fail from to asked ⌝ }
     {
         Message {
             kind: Message::FAIL,
             from: from,
             to: to,
             about: 0,
-            number: 0,
+            number: asked,
         }
     }
 

@@ -25,8 +25,8 @@ use Rattle.model.specs.Run.{fresh, run}
 use Rattle.player_bytes.specs.Decimal.{digits, decimal}
 use Rattle.plan_lines.specs.Lines.{membersUpTo, listText}
 use Rattle.save_lines.specs.Lines.{fieldText, fieldsText}
-use Rattle.save_fields.specs.Fields.{modeNumbers, holderNumbers, entriesUpTo, entries, hasAbout, hasNumber, messageNumbers}
-use Rattle.save_text.specs.Text.{eachUpTo, sitesField, setField, acceptedField, fieldsIn, textIn, siteFields, arbiterFields, messageField, firstSpelling, textOf}
+use Rattle.save_fields.specs.Fields.{modeNumbers, holderNumbers, entriesUpTo, entries, hasAbout, numbersWith, messageNumbers}
+use Rattle.save_text.specs.Text.{eachUpTo, sitesField, setField, acceptedField, fieldsIn, textIn, siteFields, arbiterFields, messageField, thisSpelling, textOf}
 
 -- the bytes of a text of ASCII characters
 abbrev toBytes : String → List ℕ
@@ -70,11 +70,11 @@ savedLines =
     ∷ "grant=0"
     ∷ "holder=0"
     ∷ "queued="
-    ∷ "message=5,1,2"
+    ∷ "message=5,1,2,1"
     ∷ "message=2,1,2,1,2"
     ∷ "message=3,1,1,2,1"
     ∷ []
 
 pub textSaved : textOf saved ≡ asText savedLines
-unfolding at put cell all any count lowest first withoutFirst member meet names sizeListed allName meetsEarlier allMeet setupCode keptSets freshRig freshTables deskOf withDesk withAccepted comesBefore headWith head requests asked handOn handOns left headOf nextHeir granted grantedHead clockRaised failFormer inquireOrFail answers queuedUp onRequest inquireIfBefore headNamed heirTakesOver holderReleases fromHolder isEarly earlyRelease onRelease onYield failedSet yielded allHeld entered taken enteredOrYielded takes onReply remembered yieldedOrRemembered onInquire mustYield yieldedIf yieldedUpTo onFail onTransfer between delivered isNumber isGiven setShaped modeShaped siteBlank siteShaped holderShaped arbiterShaped placeShaped rigShaped entryShaped ownShaped heirShaped queuedShaped everywhere numberShaped plainShaped releaseShaped aboutShaped messageShaped messagesShaped tablesShaped wellShaped actor sitesNamed takenOff attempt attempted numbersUpTo numbersFit limitCode padded acceptedState judged eventAt settled played tested event fresh run digits decimal membersUpTo listText fieldText fieldsText modeNumbers holderNumbers entriesUpTo entries hasAbout hasNumber messageNumbers eachUpTo sitesField setField acceptedField fieldsIn textIn siteFields arbiterFields messageField firstSpelling textOf
+unfolding at put cell all any count lowest first withoutFirst member meet names sizeListed allName meetsEarlier allMeet setupCode keptSets freshRig freshTables deskOf withDesk withAccepted comesBefore headWith head requests asked handOn handOns left headOf nextHeir granted grantedHead clockRaised failFormer inquireOrFail answers queuedUp onRequest inquireIfBefore headNamed heirTakesOver holderReleases fromHolder isEarly earlyRelease onRelease onYield failedSet yielded allHeld entered taken enteredOrYielded takes onReply remembered yieldedOrRemembered onInquire mustYield yieldedIf yieldedUpTo onFail onTransfer between delivered isNumber isGiven setShaped modeShaped siteBlank siteShaped holderShaped arbiterShaped placeShaped rigShaped entryShaped ownShaped heirShaped queuedShaped everywhere numberShaped plainShaped releaseShaped aboutShaped messageShaped messagesShaped tablesShaped wellShaped actor sitesNamed takenOff attempt attempted numbersUpTo numbersFit limitCode padded acceptedState judged eventAt settled played tested event fresh run digits decimal membersUpTo listText fieldText fieldsText modeNumbers holderNumbers entriesUpTo entries hasAbout numbersWith messageNumbers eachUpTo sitesField setField acceptedField fieldsIn textIn siteFields arbiterFields messageField thisSpelling textOf
 textSaved = refl

@@ -18,7 +18,7 @@ use Rattle.model.proofs.Tables.{at-same}
 use Rattle.save_fields.specs.Fields.{nth, modeNumbers, modeFrom, holderNumbers, arbiterFrom}
 
 -- number i of zeros
-zeros : (k i : ℕ) → nth (replicate k 0) i ≡ 0
+pub zeros : (k i : ℕ) → nth (replicate k 0) i ≡ 0
 unfolding at
 zeros k i = at-same 0 k (suc i)
 

@@ -1,12 +1,12 @@
 -- A message: its numbers, and back; what its shape says of them.
 use Prim.Native.Nat.{ℕ, _≤_}
-use mathlib.Core.Bool.{true, false}
+use mathlib.Core.Bool.{true, false, cond}
 use mathlib.Core.List.{List, _++_}
-use mathlib.Core.Path.{_≡_, refl, sym}
+use mathlib.Core.Path.{_≡_, refl, sym, _∙_}
 use native.Mathlib.Omega.{arith}
 use lib.Dec.{eqb, leb}
 use lib.ListN.{length, replicate}
-use borrow.Author.Tests.{eqb-true, ne-eqb, leb-true, not-false}
+use borrow.Author.Tests.{eqb-true, ne-eqb, leb-true}
 use Rattle.basics.proofs.Basics.{by-bool, clash, and-split}
 use Rattle.basics.proofs.Lists.{All}
 use Rattle.rig.specs.declared.Message.{Message}
@@ -15,48 +15,49 @@ use Rattle.rig.specs.Messages.{REQUEST, REPLY, RELEASE, INQUIRE, FAIL, YIELD, T
 use Rattle.model.specs.State.{inRange}
 use Rattle.model.specs.Shape.{isNumber, isGiven, numberShaped, plainShaped, aboutShaped, messageShaped}
 use Rattle.model.proofs.Shaped.{by-kind, within}
-use Rattle.save_fields.specs.Fields.{hasAbout, hasNumber, messageNumbers, messageFrom}
-
--- a message that is about a site has a number
-pub about-numbered : (kind : ℕ) → hasAbout kind ≡ true → hasNumber kind ≡ true
-unfolding hasAbout hasNumber
-about-numbered kind h =
-    by-bool (eqb kind FAIL)
-    (λ e. let z = eqb-true kind FAIL e in clash false (rw z at h) refl)
-    (λ e. rw e)
+use Rattle.save_fields.specs.Fields.{nth, hasAbout, numbersWith, messageNumbers, messageFrom}
+use Rattle.save_fields.specs.Values.{valueOf, firstFive}
+use Rattle.save_fields.proofs.Fields.{zeros}
 
 module _ (m : Message) where
   message-same : (a n : ℕ) → a ≡ m .about → n ≡ m .number → record { kind = m .kind; from = m .from; to = m .to; about = a; number = n } ≡ m
   message-same a n e f = rw (e, f)
 
-  pub message-back :
-      (k : ℕ)
-      → (hasAbout (m .kind) ≡ false → m .about ≡ 0)
-      → (hasNumber (m .kind) ≡ false → m .number ≡ 0)
-      → messageFrom (messageNumbers m ++ replicate k 0) ≡ m
-  unfolding messageNumbers messageFrom
-  message-back k f g =
+  -- the first of five numbers: a number that is 0 is among the zeros behind
+  pub value-about : hasAbout (m .kind) ≡ true → firstFive (m .kind) (m .from) (m .to) (m .about) (m .number) (cond (eqb (m .number) 0) 4 5) ≡ valueOf (messageNumbers m)
+  unfolding messageNumbers numbersWith
+  value-about e = by-bool (eqb (m .number) 0) (λ d. rw (e, d, eqb-true (m .number) 0 d)) (λ d. rw (e, d))
+
+  pub value-plain : hasAbout (m .kind) ≡ false → firstFive (m .kind) (m .from) (m .to) (m .number) 0 (cond (eqb (m .number) 0) 3 4) ≡ valueOf (messageNumbers m)
+  unfolding messageNumbers numbersWith
+  value-plain e = by-bool (eqb (m .number) 0) (λ d. rw (e, d, eqb-true (m .number) 0 d)) (λ d. rw (e, d))
+
+  pub message-back : (k : ℕ) → (hasAbout (m .kind) ≡ false → m .about ≡ 0) → messageFrom (messageNumbers m ++ replicate k 0) ≡ m
+  unfolding messageNumbers numbersWith messageFrom
+  message-back k f =
       by-bool (hasAbout (m .kind))
-      (λ e. rw (e, about-numbered (m .kind) e))
+      (λ e. by-bool (eqb (m .number) 0) (λ d. rw (e, d) (message-same _ _ refl (none d))) (λ d. rw (e, d)))
       (λ e. let z = sym (f e) in
-      by-bool (hasNumber (m .kind))
-      (λ d. rw (e, d) (message-same 0 _ z refl))
-      (λ d. rw (e, d) (message-same 0 0 z (sym (g d)))))
+      by-bool (eqb (m .number) 0) (λ d. rw (e, d) (message-same 0 _ z (none d))) (λ d. rw (e, d) (message-same 0 _ z refl)))
+    where
+      -- a number that lacks is 0
+      none : eqb (m .number) 0 ≡ true → nth (replicate k 0) 0 ≡ m .number
+      none d = zeros k 0 ∙ sym (eqb-true (m .number) 0 d)
 
   pub message-short : length (messageNumbers m) ≤ 5
-  unfolding messageNumbers
+  unfolding messageNumbers numbersWith
   message-short =
       by-bool (hasAbout (m .kind))
-      (λ e. by-bool (hasNumber (m .kind)) (λ d. rw (e, d) (omega arith)) (λ d. rw (e, d) (omega arith)))
-      (λ e. by-bool (hasNumber (m .kind)) (λ d. rw (e, d) (omega arith)) (λ d. rw (e, d) (omega arith)))
+      (λ e. by-bool (eqb (m .number) 0) (λ d. rw (e, d) (omega arith)) (λ d. rw (e, d) (omega arith)))
+      (λ e. by-bool (eqb (m .number) 0) (λ d. rw (e, d) (omega arith)) (λ d. rw (e, d) (omega arith)))
 
   pub message-bound :
       (b : ℕ) → m .kind ≤ b → m .from ≤ b → m .to ≤ b → m .about ≤ b → m .number ≤ b → All (λ n. n ≤ b) (messageNumbers m)
-  unfolding messageNumbers All
+  unfolding messageNumbers numbersWith All
   message-bound b k f t a n =
       by-bool (hasAbout (m .kind))
-      (λ e. by-bool (hasNumber (m .kind)) (λ d. rw (e, d) (k, (f, (t, (a, (n, tt)))))) (λ d. rw (e, d) (k, (f, (t, (a, tt))))))
-      (λ e. by-bool (hasNumber (m .kind)) (λ d. rw (e, d) (k, (f, (t, (n, tt))))) (λ d. rw (e, d) (k, (f, (t, tt)))))
+      (λ e. by-bool (eqb (m .number) 0) (λ d. rw (e, d) (k, (f, (t, (a, tt))))) (λ d. rw (e, d) (k, (f, (t, (a, (n, tt)))))))
+      (λ e. by-bool (eqb (m .number) 0) (λ d. rw (e, d) (k, (f, (t, tt)))) (λ d. rw (e, d) (k, (f, (t, (n, tt))))))
 
 -- What the shape of a message says. That `about` is 31 at most is `about-high` of the model's laws.
 module _ (n : ℕ) (sets : List ℕ) (m : Message) (s : messageShaped n sets m ≡ true) where
@@ -79,12 +80,15 @@ module _ (n : ℕ) (sets : List ℕ) (m : Message) (s : messageShaped n sets m �
   number-high =
       let a = parts .2 in
       by-bool (eqb (m .kind) FAIL)
-      (λ e. let z = eqb-true (m .number) 0 (rw e at a) in omega arith)
+      (λ e. leb-true (m .number) numberLimit (rw e at a))
       (λ e. leb-true (m .number) numberLimit (and-split (leb 1 (m .number)) _ (rw e at a) .1))
 
-  pub number-none : hasNumber (m .kind) ≡ false → m .number ≡ 0
-  unfolding hasNumber numberShaped
-  number-none h = eqb-true (m .number) 0 (rw (not-false (eqb (m .kind) FAIL) h) at (parts .2))
+  -- only a fail may lack its number
+  pub numbered : eqb (m .kind) FAIL ≡ false → eqb (m .number) 0 ≡ false
+  unfolding numberShaped isGiven
+  numbered e =
+      let l = leb-true 1 (m .number) (and-split (leb 1 (m .number)) _ (rw e at (parts .2)) .0) in
+      ne-eqb (m .number) 0 (λ z. omega arith)
 
   -- by its kind, one of the seven
   one-kind :

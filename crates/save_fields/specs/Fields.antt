@@ -10,7 +10,7 @@ use Rattle.rig.specs.declared.Mode.{Mode}
 use Rattle.rig.specs.declared.Mode.the-variants.{Rest, Waiting, Inside}
 use Rattle.rig.specs.declared.Message.{Message}
 use Rattle.rig.specs.Limits.{siteLimit}
-use Rattle.rig.specs.Messages.{REPLY, RELEASE, FAIL, TRANSFER}
+use Rattle.rig.specs.Messages.{REPLY, RELEASE, TRANSFER}
 use Rattle.model.specs.Tables.{at}
 
 -- number i of a line, from 0; 0 where it lacks
@@ -53,17 +53,16 @@ rowUpTo p ns (suc i) = rowUpTo p ns i ++ (cond (p (suc i)) (nth ns (count p i)) 
 unfoldable pub rowFrom : (ℕ → Bool) → List ℕ → List ℕ
 rowFrom p ns = rowUpTo p ns siteLimit
 
--- A message: kind, from, to; `about` in a reply, a release and a transfer; the number, but not in a fail.
+-- A message: kind, from, to; `about` in a reply, a release and a transfer; the number, but not where it is 0, as in a fail of an earlier version.
 unfoldable pub hasAbout : ℕ → Bool
 hasAbout kind = eqb kind REPLY || (eqb kind RELEASE || eqb kind TRANSFER)
 
-unfoldable pub hasNumber : ℕ → Bool
-hasNumber kind = not (eqb kind FAIL)
+-- with its number or without
+unfoldable pub numbersWith : Message → Bool → List ℕ
+numbersWith m numbered = m .kind ∷ m .from ∷ m .to ∷ (cond (hasAbout (m .kind)) (m .about ∷ []) [] ++ cond numbered (m .number ∷ []) [])
 
 unfoldable pub messageNumbers : Message → List ℕ
-messageNumbers m =
-    m .kind ∷ m .from ∷ m .to
-    ∷ (cond (hasAbout (m .kind)) (m .about ∷ []) [] ++ cond (hasNumber (m .kind)) (m .number ∷ []) [])
+messageNumbers m = numbersWith m (not (eqb (m .number) 0))
 
 unfoldable pub messageFrom : List ℕ → Message
 messageFrom ns =
@@ -73,5 +72,5 @@ messageFrom ns =
       from = nth ns 1;
       to = nth ns 2;
       about = cond (hasAbout kind) (nth ns 3) 0;
-      number = cond (hasNumber kind) (nth ns (cond (hasAbout kind) 4 3)) 0;
+      number = cond (hasAbout kind) (nth ns 4) (nth ns 3);
     }

@@ -8,13 +8,14 @@ ghost use Prim.Native.Nat.{_+_, _^_, _<_};
 ghost use mathlib.Core.Bool.{cond};
 ghost use mathlib.Core.List.{[], _∷_};
 ghost use mathlib.Core.Path.{_≡_};
+ghost use lib.Dec.{eqb};
 ghost use lib.ListN.{set};
 ghost use Rattle.rig.specs.Limits.{siteLimit};
 ghost use Rattle.model.specs.Sets.{member, setOf};
 ghost use Rattle.model.specs.State.{hasMember};
 ghost use Rattle.plan_lines.specs.Lines.{membersUpTo};
 ghost use Rattle.save_fields.specs.Fields.{modeNumbers, modeFrom, holderNumbers, arbiterFrom, entries, rowFrom};
-ghost use Rattle.save_fields.specs.Fields.{hasAbout, hasNumber, messageNumbers, messageFrom};
+ghost use Rattle.save_fields.specs.Fields.{hasAbout, messageNumbers, messageFrom};
 ghost use Rattle.save_fields.specs.Values.{valueOf, firstFive};
 
 // The numbers of a line, 0 behind the last one.
@@ -74,29 +75,34 @@ pub fn holder_value(a: Arbiter) -> Value
     first_five(a.holder, a.seq, 0, 0, 0, 2)
 }
 
-// Whether a message of the kind is about a site, and whether it has a number.
+// Whether a message of the kind is about a site.
 fn has_about(kind: u64) -> bool
     ensures { λ r. ⌜ r ≡ hasAbout kind ⌝ }
 {
     kind == Message::REPLY || (kind == Message::RELEASE || kind == Message::TRANSFER)
 }
 
-fn has_number(kind: u64) -> bool
-    ensures { λ r. ⌜ r ≡ hasNumber kind ⌝ }
+// How many numbers a line has whose last one is written only where it is not 0.
+fn count_of(last: u64, without: usize, with: usize) -> usize
+    ensures { λ r. ⌜ r ≡ cond (eqb last 0) without with ⌝ }
 {
-    kind != Message::FAIL
+    if last == 0 { without } else { with }
 }
 
 pub fn message_value(m: Message) -> Value
     ensures { λ r. ⌜ r ≡ valueOf (messageNumbers m) ⌝ }
 {
     if has_about(m.kind) {
-        return first_five(m.kind, m.from, m.to, m.about, m.number, 5);
+        return first_five(
+            m.kind,
+            m.from,
+            m.to,
+            m.about,
+            m.number,
+            count_of(m.number, 4, 5),
+        );
     }
-    if has_number(m.kind) {
-        return first_five(m.kind, m.from, m.to, m.number, 0, 4);
-    }
-    first_five(m.kind, m.from, m.to, 0, 0, 3)
+    first_five(m.kind, m.from, m.to, m.number, 0, count_of(m.number, 3, 4))
 }
 
 // One turn of the loops below: puts n at a place where a site is one of those that are asked for, and counts it.
@@ -209,33 +215,30 @@ pub fn arbiter_from(grant: u64, ns: &Numbers) -> Arbiter
     }
 }
 
-pub fn message_from(ns: &Numbers) -> Message
-    ensures { λ r. ⌜ r ≡ messageFrom (now (ns .entry)) ⌝ }
+// A message whose number stands behind `about`, if it is about a site.
+fn message_of(kind: u64, from: u64, to: u64, about: bool, fourth: u64, fifth: u64) -> Message
+    ensures { λ r. ⌜ r ≡ record { kind = kind; from = from; to = to; about = cond about fourth 0; number = cond about fifth fourth } ⌝ }
 {
-    let kind = ns[0];
-    if has_about(kind) {
+    if about {
         return Message {
             kind: kind,
-            from: ns[1],
-            to: ns[2],
-            about: ns[3],
-            number: ns[4],
-        };
-    }
-    if has_number(kind) {
-        return Message {
-            kind: kind,
-            from: ns[1],
-            to: ns[2],
-            about: 0,
-            number: ns[3],
+            from: from,
+            to: to,
+            about: fourth,
+            number: fifth,
         };
     }
     Message {
         kind: kind,
-        from: ns[1],
-        to: ns[2],
+        from: from,
+        to: to,
         about: 0,
-        number: 0,
+        number: fourth,
     }
+}
+
+pub fn message_from(ns: &Numbers) -> Message
+    ensures { λ r. ⌜ r ≡ messageFrom (now (ns .entry)) ⌝ }
+{
+    message_of(ns[0], ns[1], ns[2], has_about(ns[0]), ns[3], ns[4])
 }

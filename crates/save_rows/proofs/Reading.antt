@@ -21,7 +21,7 @@ use Rattle.model.proofs.Shaped.{shaped}
 use Rattle.list_rows.specs.Rows.{ZeroPast}
 use Rattle.list_rows.specs.State.{stored}
 use Rattle.save_lines.specs.Lines.{linesIn}
-use Rattle.save_text.specs.Text.{firstSpelling}
+use Rattle.save_text.specs.Text.{thisSpelling}
 use Rattle.save_text.specs.Reading.{sizeFrom, messagesFrom, tablesOf, stateFrom, isTextOf, accepts, readText}
 use Rattle.save_reading.specs.declared.Given.{Given}
 use Rattle.save_reading.specs.Lines.{fitting, GivesLines}
@@ -37,11 +37,11 @@ too-many text f =
     (λ w. w)
 
 -- a text that is not that of its state
-pub none-read : (text : List ℕ) → isTextOf firstSpelling text (stateFrom (linesIn text)) ≡ false → readText text ≡ none
+pub none-read : (text : List ℕ) → isTextOf thisSpelling text (stateFrom (linesIn text)) ≡ false → readText text ≡ none
 unfolding readText accepts
 none-read text f = rw f
 
-pub some-read : (text : List ℕ) (s : Stored) → s ≡ stateFrom (linesIn text) → isTextOf firstSpelling text s ≡ true → readText text ≡ some s
+pub some-read : (text : List ℕ) (s : Stored) → s ≡ stateFrom (linesIn text) → isTextOf thisSpelling text s ≡ true → readText text ≡ some s
 unfolding readText accepts
 some-read text s e f = rw (← e, f)
 

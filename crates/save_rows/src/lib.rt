@@ -15,7 +15,7 @@ ghost use Prim.Native.Nat.{_≤_};
 ghost use Rattle.rig.specs.Limits.{messageLimit};
 ghost use Rattle.list_rows.specs.Rows.{zeroRows};
 ghost use Rattle.list_rows.specs.State.{before};
-ghost use Rattle.save_text.specs.Text.{firstSpelling};
+ghost use Rattle.save_text.specs.Text.{thisSpelling};
 ghost use Rattle.save_text.specs.Reading.{isTextOf};
 ghost use Rattle.save_rows.specs.Rows.{inBuffer, writtenWith, ReadsRows};
 
@@ -91,7 +91,7 @@ pub fn read_rows(text: &[u8], len: usize, tables: &mut Tables, list: &mut Rows) 
 // Whether a state is well shaped and these bytes are its text.
 fn is_text_of(text: &[u8], rig: Rig, tables: &Tables, list: &Rows, count: usize) -> bool
     requires { ⌜ count ≤ messageLimit ⌝ }
-    ensures { λ r. ⌜ r ≡ isTextOf firstSpelling (now (text .entry)) (before rig tables list count) ⌝ }
+    ensures { λ r. ⌜ r ≡ isTextOf thisSpelling (now (text .entry)) (before rig tables list count) ⌝ }
 {
     if !well_shaped(rig, tables, list, count) {
         return false;

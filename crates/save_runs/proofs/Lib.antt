@@ -1,3 +1,4 @@
 pub mod Same
 pub mod Sizes
 pub mod Breaks
+pub mod Update

@@ -1,8 +1,8 @@
 -- An event leaves the lengths of a state's arrays and of its list, and so does every run.
 use Prim.Native.Nat.{ℕ}
-use mathlib.Core.Path.{_≡_}
-use mathlib.Core.Bool.{true}
-use mathlib.Core.List.{List, []}
+use mathlib.Core.Path.{_≡_, _∙_}
+use mathlib.Core.Bool.{Bool, true}
+use mathlib.Core.List.{List, [], _∷_}
 use mathlib.Core.Option.{Option, none, some}
 use lib.Dec.{eqb}
 use lib.ListN.{length}
@@ -20,11 +20,13 @@ use Rattle.model.specs.Deliver.{between}
 use Rattle.model.specs.Shape.{wellShaped}
 use Rattle.model.specs.Event.{actor, sitesNamed, Attempt, refused, possible, takenOff, attempt, attempted, effectCode, Outcome, acceptedState, judged, eventAt, settled, played, tested, event}
 use Rattle.model.specs.Run.{fresh, run}
+use Rattle.model.specs.Losses.{withLost, Move, happens, loses, moved, runWithLosses}
 use Rattle.model.proofs.Tables.{Square}
 use Rattle.model.proofs.Machine.{Sized, DeskSized, desk-sized, sized-desk}
 use Rattle.model.proofs.DeskSizes.{asked-sized, left-sized, delivered-sized}
 use Rattle.model.proofs.Shaped.{shaped, listed}
 use Rattle.model.proofs.Codes.{event-long}
+use Rattle.model.proofs.Lost.{length-lost}
 use Rattle.model.proofs.Theorem.{run-of}
 use Rattle.save_text.specs.Claims.{IsTable, IsState}
 use Rattle.save_runs.specs.Breaks.{SameState}
@@ -132,6 +134,16 @@ module _ (s : Stored) (h : IsState s) where
       by-bool (wellShaped s)
       (λ w. let long = event-long s e (h .list) in rw (eq-eqb _ messageLimit (h .list), w) (is-state _ (played-sized w e) (rw (eq-eqb _ messageLimit (h .list), w) at long)))
       (λ w. rw (eq-eqb _ messageLimit (h .list), w) h)
+
+pub lost-state : (p : ℕ → Bool) (s : Stored) → IsState s → IsState (withLost p s)
+unfolding withLost
+lost-state p s h = record { sites = h .sites; arbiters = h .arbiters; held = h .held; heir = h .heir; inquired = h .inquired; queued = h .queued; list = length-lost p (s .list) ∙ h .list }
+
+pub moves-state : (moves : List Move) (s : Stored) → IsState s → IsState (runWithLosses s moves)
+unfolding runWithLosses moved
+moves-state [] s h = h
+moves-state (happens e ∷ moves) s h = moves-state moves _ (event-state s h e)
+moves-state (loses p ∷ moves) s h = moves-state moves _ (lost-state p s h)
 
 -- the fresh state of sets that pass, on a list of 1,024 entries
 pub fresh-state : (n : ℕ) (sets : List ℕ) (list : List Message) → setupCode n sets ≡ 0 → length list ≡ messageLimit → IsState (fresh n sets list)

@@ -1,8 +1,8 @@
 -- Request 2.2: "At most one site inside, one place for each permission and no stuck rig are then also true of runs resumed from a text saved in such
--- a run." A run with breaks is a list of events with a save and a read after any of them, any number of times.
+-- a run." A run with breaks is a list of events with a save and a read after any of them, any number of times; fails may lose their numbers, too.
 use Prim.Native.Nat.{ℕ, _≤_}
 use mathlib.Core.Bool.{true, cond}
-use mathlib.Core.List.{List, [], _∷_}
+use mathlib.Core.List.{List, [], _∷_, _++_}
 use mathlib.Core.Path.{_≡_}
 use lib.Dec.{eqb}
 use lib.ListN.{length, take}
@@ -13,15 +13,17 @@ use Rattle.model.specs.Setup.{setupCode}
 use Rattle.model.specs.State.{Stored, underWay}
 use Rattle.model.specs.Shape.{wellShaped}
 use Rattle.model.specs.Event.{Answer, event}
-use Rattle.model.specs.Run.{fresh, run, Sound}
+use Rattle.model.specs.Run.{fresh, Sound}
+use Rattle.model.specs.Losses.{Move, happens, loses, moved, runWithLosses}
 use Rattle.model.specs.Printed.{printed}
 use Rattle.save_text.specs.Text.{textOf}
 use Rattle.save_text.specs.Calls.{Written, written, readInto}
 use Rattle.save_text.specs.Claims.{IsState, kept}
 
--- What happens to a rig: an event, or a break. In a break its state is written to a lent buffer, and the text read into what another console lends.
+-- What happens to a rig: a move, which is an event or lost numbers, or a break. In a break its state is written to a lent buffer, and the text read
+-- into what another console lends.
 pub data Act : Type 0 where
-  happens : Event → Act
+  moves : Move → Act
   pauses : List ℕ → Stored → Act
 
 -- the text in a buffer that was written to
@@ -41,32 +43,36 @@ unfoldable pub afterBreak : Stored → List ℕ → Stored → Stored
 afterBreak s buffer lent = afterReading s (written s buffer) lent
 
 unfoldable pub after : Stored → Act → Stored
-after s (happens e) = event s e .next
+after s (moves m) = moved s m
 after s (pauses buffer lent) = afterBreak s buffer lent
 
 unfoldable pub runWithBreaks : Stored → List Act → Stored
 runWithBreaks s [] = s
 runWithBreaks s (a ∷ acts) = runWithBreaks (after s a) acts
 
--- Demand 3 of runs with breaks: for every family that setup passes, every lent list and every list of events and breaks
+-- Demand 3 of runs with breaks: for every family that setup passes, every lent list and every list of events, lost numbers and breaks
 unfoldable pub SoundWithBreaks : Type 0
 SoundWithBreaks =
     (n : ℕ) (sets : List ℕ) (list : List Message) (acts : List Act) →
     setupCode n sets ≡ 0 → Sound (runWithBreaks (fresh n sets list) acts)
 
--- The events among the acts, and the codes of events, without breaks and with them
-unfoldable pub eventsIn : List Act → List Event
-eventsIn [] = []
-eventsIn (happens e ∷ acts) = e ∷ eventsIn acts
-eventsIn (pauses buffer lent ∷ acts) = eventsIn acts
+-- The moves among the acts, and the codes of events, without breaks and with them
+unfoldable pub movesIn : List Act → List Move
+movesIn [] = []
+movesIn (moves m ∷ acts) = m ∷ movesIn acts
+movesIn (pauses buffer lent ∷ acts) = movesIn acts
 
-unfoldable pub codes : Stored → List Event → List ℕ
+unfoldable pub codesOf : Stored → Move → List ℕ
+codesOf s (happens e) = event s e .code ∷ []
+codesOf s (loses p) = []
+
+unfoldable pub codes : Stored → List Move → List ℕ
 codes s [] = []
-codes s (e ∷ es) = event s e .code ∷ codes (event s e .next) es
+codes s (m ∷ ms) = codesOf s m ++ codes (moved s m) ms
 
 unfoldable pub codesWithBreaks : Stored → List Act → List ℕ
 codesWithBreaks s [] = []
-codesWithBreaks s (happens e ∷ acts) = event s e .code ∷ codesWithBreaks (event s e .next) acts
+codesWithBreaks s (moves m ∷ acts) = codesOf s m ++ codesWithBreaks (moved s m) acts
 codesWithBreaks s (pauses buffer lent ∷ acts) = codesWithBreaks (afterBreak s buffer lent) acts
 
 -- two states that differ in the list past the messages under way at most
@@ -75,11 +81,11 @@ pub record SameState (s t : Stored) : Type 0 where
   pub count : s .count ≡ t .count
   pub messages : underWay s ≡ underWay t
 
--- A break changes no table, no message under way and no code: the state and the codes are those of the same events without breaks, from any state.
+-- A break changes no table, no message under way and no code: the state and the codes are those of the same moves without breaks, from any state.
 unfoldable pub BreaksUnseen : Type 0
 BreaksUnseen =
     (s : Stored) (acts : List Act) → IsState s →
-    SameState (runWithBreaks s acts) (run s (eventsIn acts)) × (codesWithBreaks s acts ≡ codes s (eventsIn acts))
+    SameState (runWithBreaks s acts) (runWithLosses s (movesIn acts)) × (codesWithBreaks s acts ≡ codes s (movesIn acts))
 
 -- a break of the state s is taken where the buffer has room for the text and the lent list is 1,024 entries long: the state goes on, 0 past its messages
 abbrev pub Taken : Stored → Type 0

@@ -1,1 +1,2 @@
 pub mod Breaks
+pub mod Update

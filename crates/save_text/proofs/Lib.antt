@@ -5,3 +5,4 @@ pub mod Places
 pub mod Arrays
 pub mod Facts
 pub mod ReadBack
+pub mod FirstSpelled

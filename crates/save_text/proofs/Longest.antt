@@ -19,9 +19,9 @@ use Rattle.model.proofs.Shaped.{Shaped, shaped, about-high}
 use Rattle.player_bytes.specs.Decimal.{decimal}
 use Rattle.player_grammar.specs.Grammar.{sitesWord, setWord}
 use Rattle.save_lines.specs.Lines.{fieldText, fieldsText}
-use Rattle.save_fields.specs.Fields.{modeNumbers, holderNumbers, entries, hasAbout, hasNumber, messageNumbers}
+use Rattle.save_fields.specs.Fields.{modeNumbers, holderNumbers, entries, hasAbout, numbersWith, messageNumbers}
 use Rattle.save_fields.proofs.Messages.{from-high, to-high, number-high, kind-high}
-use Rattle.save_text.specs.Text.{acceptedWord, clockWord, modeWord, heldWord, heirWord, inquiredWord, grantWord, holderWord, queuedWord, messageWord, sitesField, setField, acceptedField, fieldsIn, textIn, siteFields, arbiterFields, messageField, firstSpelling, textOf}
+use Rattle.save_text.specs.Text.{acceptedWord, clockWord, modeWord, heldWord, heirWord, inquiredWord, grantWord, holderWord, queuedWord, messageWord, sitesField, setField, acceptedField, fieldsIn, textIn, siteFields, arbiterFields, messageField, thisSpelling, textOf}
 use Rattle.save_text.specs.Claims.{longest, NoneLonger}
 use Rattle.save_text.proofs.Facts.{held-small, heir-small, inquired-small, queued-small, site-small, grant-small, holder-small}
 use Rattle.save_text.proofs.Lengths.{decimal-short, weight, field-short, one-short, entries-short, members-short, fields-length, each-short}
@@ -112,7 +112,7 @@ module _ (s : Stored) (e : wellShaped s ≡ true) where
 
   -- the lines of the messages
   message-line : (m : Message) → messageShaped (sizeOf t) (setsOf t) m ≡ true → length (fieldText (messageField m)) ≤ 27
-  unfolding messageField messageNumbers weight
+  unfolding messageField messageNumbers numbersWith weight
   message-line m f =
       let n = h .sets .high in
       let kind = digit-short (m .kind) (omega (arith, kind-high (sizeOf t) (setsOf t) m f)) in
@@ -122,8 +122,8 @@ module _ (s : Stored) (e : wellShaped s ≡ true) where
       let number = number-short (m .number) (number-high (sizeOf t) (setsOf t) m f) in
       field-short messageWord (messageNumbers m) 19
       (by-bool (hasAbout (m .kind))
-      (λ x. by-bool (hasNumber (m .kind)) (λ y. rw (x, y) (omega arith)) (λ y. rw (x, y) (omega arith)))
-      (λ x. by-bool (hasNumber (m .kind)) (λ y. rw (x, y) (omega arith)) (λ y. rw (x, y) (omega arith))))
+      (λ x. by-bool (eqb (m .number) 0) (λ y. rw (x, y) (omega arith)) (λ y. rw (x, y) (omega arith)))
+      (λ x. by-bool (eqb (m .number) 0) (λ y. rw (x, y) (omega arith)) (λ y. rw (x, y) (omega arith))))
       (omega arith)
 
   message-lines : (ms : List Message) → messagesShaped (sizeOf t) (setsOf t) ms ≡ true → length (fieldsText (map messageField ms)) ≤ 27 * length ms
@@ -145,7 +145,7 @@ module _ (s : Stored) (e : wellShaped s ≡ true) where
   accepted-line = one-short acceptedWord _ 7 (number-short (t .rig .accepted) (omega (arith, h .accepted)))
 
   text-short : length (textOf s) ≤ longest
-  unfolding textOf textIn fieldsIn firstSpelling fieldsText
+  unfolding textOf textIn fieldsIn thisSpelling fieldsText
   text-short =
       let a = sites-line in
       let b = each-short (λ k. setField (at 0 (setsOf t) k) ∷ []) 88 (sizeOf t) (λ k _ _. set-line (at 0 (setsOf t) k)) in

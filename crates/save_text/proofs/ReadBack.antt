@@ -32,8 +32,8 @@ use Rattle.save_fields.specs.Fields.{nth, modeNumbers, holderNumbers, entries, 
 use Rattle.save_fields.proofs.Rows.{entries-short, entries-bound, row-back-within}
 use Rattle.save_fields.proofs.Fields.{mode-back, mode-short, mode-bound, arbiter-back, holder-short, holder-bound}
 use Rattle.save_fields.proofs.Values.{members-few}
-use Rattle.save_fields.proofs.Messages.{message-back, message-short, message-bound, from-high, to-high, number-high, number-none, kind-high, about-none}
-use Rattle.save_text.specs.Text.{clockWord, modeWord, heldWord, heirWord, inquiredWord, grantWord, holderWord, queuedWord, messageWord, eachUpTo, sitesField, setField, acceptedField, fieldsIn, textIn, siteFields, arbiterFields, messageField, firstSpelling, textOf}
+use Rattle.save_fields.proofs.Messages.{message-back, message-short, message-bound, from-high, to-high, number-high, kind-high, about-none}
+use Rattle.save_text.specs.Text.{clockWord, modeWord, heldWord, heirWord, inquiredWord, grantWord, holderWord, queuedWord, messageWord, eachUpTo, sitesField, setField, acceptedField, fieldsIn, textIn, siteFields, arbiterFields, messageField, thisSpelling, textOf}
 use Rattle.save_text.specs.Reading.{lineAt, numbersAt, siteLine, arbiterLine, messageLine, sizeFrom, setFrom, arrayOf, siteFrom, arbiterAt, ownRow, queueRow, tablesOf, setsFrom, messagesFrom, stateFrom, isTextOf, accepts, readText}
 use Rattle.save_text.specs.Claims.{IsTable, IsState, kept, ReadBack, WrittenBack}
 use Rattle.save_text.proofs.Places.{noField, sites-at, set-at, accepted-at, site-at, arbiter-at, messages-behind}
@@ -144,10 +144,10 @@ module _ (s : Stored) (w : wellShaped s ≡ true) where
       )
 
   abbrev fs : List Field
-  fs = fieldsIn firstSpelling s
+  fs = fieldsIn thisSpelling s
 
   plain-fields : All PlainField fs
-  unfolding fieldsIn firstSpelling sitesField acceptedField All plainBytes
+  unfolding fieldsIn thisSpelling sitesField acceptedField All plainBytes
   plain-fields =
       let z = h .sets .high in
       let y = h .accepted in (
@@ -184,28 +184,28 @@ module _ (s : Stored) (w : wellShaped s ≡ true) where
       rw (line-of i f e) (numbers-of-field f p)
 
   -- which field stands where: five for a site, three for an arbiter
-  five : (k : ℕ) → length (firstSpelling .site t k) ≡ 5
-  unfolding firstSpelling siteFields
+  five : (k : ℕ) → length (thisSpelling .site t k) ≡ 5
+  unfolding thisSpelling siteFields
   five k = refl
 
-  three : (j : ℕ) → length (firstSpelling .arbiter t j) ≡ 3
-  unfolding firstSpelling arbiterFields
+  three : (j : ℕ) → length (thisSpelling .arbiter t j) ≡ 3
+  unfolding thisSpelling arbiterFields
   three j = refl
 
   site-field : (k c : ℕ) → 1 ≤ k → k ≤ n → c < 5 → getD fs (siteLine n k + c) noField ≡ getD (siteFields t k) c noField
-  unfolding firstSpelling
-  site-field k c a b l = let e : n + 2 + (5 * (k - 1) + c) ≡ siteLine n k + c = omega arith in rw e at (site-at firstSpelling 5 3 s five three k c a b l)
+  unfolding thisSpelling
+  site-field k c a b l = let e : n + 2 + (5 * (k - 1) + c) ≡ siteLine n k + c = omega arith in rw e at (site-at thisSpelling 5 3 s five three k c a b l)
 
   arbiter-field : (j c : ℕ) → 1 ≤ j → j ≤ n → c < 3 → getD fs (arbiterLine n j + c) noField ≡ getD (arbiterFields t j) c noField
-  unfolding firstSpelling
-  arbiter-field j c a b l = let e : n + 2 + (5 * n + (3 * (j - 1) + c)) ≡ arbiterLine n j + c = omega arith in rw e at (arbiter-at firstSpelling 5 3 s five three j c a b l)
+  unfolding thisSpelling
+  arbiter-field j c a b l = let e : n + 2 + (5 * n + (3 * (j - 1) + c)) ≡ arbiterLine n j + c = omega arith in rw e at (arbiter-at thisSpelling 5 3 s five three j c a b l)
 
   -- the number of sites, and the sets
   size-back : sizeFrom ls ≡ n
   unfolding sizeFrom sitesField sizeIn listText
   size-back =
       let z = h .sets .high in
-      rw (line-of 0 (sitesField n) (sites-at firstSpelling 5 3 s five three), sites-read n (omega arith))
+      rw (line-of 0 (sitesField n) (sites-at thisSpelling 5 3 s five three), sites-read n (omega arith))
 
   names-within : (k : ℕ) → 1 ≤ k → k ≤ n → names siteLimit (at 0 (setsOf t) k) ≡ true
   unfolding allName names
@@ -218,7 +218,7 @@ module _ (s : Stored) (w : wellShaped s ≡ true) where
 
   set-back : (k : ℕ) → 1 ≤ k → k ≤ n → setFrom ls k ≡ at 0 (setsOf t) k
   unfolding setFrom setField setIn
-  set-back k a b = rw (line-of k (setField (at 0 (setsOf t) k)) (set-at firstSpelling 5 3 s five three k a b), set-read (at 0 (setsOf t) k) (names-within k a b))
+  set-back k a b = rw (line-of k (setField (at 0 (setsOf t) k)) (set-at thisSpelling 5 3 s five three k a b), set-read (at 0 (setsOf t) k) (names-within k a b))
 
   sets-back : setsFrom ls ≡ setsOf t
   unfolding setsFrom
@@ -226,7 +226,7 @@ module _ (s : Stored) (w : wellShaped s ≡ true) where
 
   accepted-back : nth (numbersAt ls (suc n)) 0 ≡ t .rig .accepted
   unfolding acceptedField
-  accepted-back = rw (numbers-of (suc n) (acceptedField (t .rig .accepted)) (accepted-at firstSpelling 5 3 s five three))
+  accepted-back = rw (numbers-of (suc n) (acceptedField (t .rig .accepted)) (accepted-at thisSpelling 5 3 s five three))
 
   -- the sites and the arbiters
   site-back : (k : ℕ) → 1 ≤ k → k ≤ n → siteFrom ls n (setsOf t) k ≡ siteOf t k
@@ -317,15 +317,15 @@ module _ (s : Stored) (w : wellShaped s ≡ true) where
       let a = and-split (messageShaped n (setsOf t) m) (messagesShaped n (setsOf t) ms) e in
       rw (
         numbers-of-field (field messageWord (messageNumbers m)) (plain-messages (m ∷ ms) e .0),
-        message-back m (siteLimit - length (messageNumbers m)) (about-none n (setsOf t) m (a .0)) (number-none n (setsOf t) m (a .0)),
+        message-back m (siteLimit - length (messageNumbers m)) (about-none n (setsOf t) m (a .0)),
         each-message ms (a .1),
       )
 
   messages-back : messagesFrom ls ≡ underWay s
-  unfolding messagesFrom firstSpelling
+  unfolding messagesFrom thisSpelling
   messages-back =
       let e : n + 2 + (5 * n + 3 * n) ≡ messageLine n = omega arith in
-      rw (size-back, lines, drop-map lineOf (messageLine n) fs, rw e at (messages-behind firstSpelling 5 3 s five three)) (each-message (underWay s) (h .messages))
+      rw (size-back, lines, drop-map lineOf (messageLine n) fs, rw e at (messages-behind thisSpelling 5 3 s five three)) (each-message (underWay s) (h .messages))
 
   module _ (is : IsState s) where
     counted : length (underWay s) ≡ s .count
@@ -365,7 +365,7 @@ same-equal [] (y ∷ ys) e = clash false e refl
 same-equal (x ∷ xs) [] e = clash false e refl
 same-equal (x ∷ xs) (y ∷ ys) e = let p = and-split (eqb x y) (same xs ys) e in rw (eqb-true x y (p .0), same-equal xs ys (p .1))
 
-accepted-by : (text : List ℕ) (a s : Stored) → accepts firstSpelling text a ≡ some s → (wellShaped s ≡ true) × (textOf s ≡ text)
+accepted-by : (text : List ℕ) (a s : Stored) → accepts thisSpelling text a ≡ some s → (wellShaped s ≡ true) × (textOf s ≡ text)
 unfolding accepts isTextOf textOf
 accepted-by text a s e =
     by-bool (wellShaped a && same (textOf a) text)

@@ -10,7 +10,8 @@ use Rattle.model.specs.Tables.{at}
 use Rattle.model.specs.State.{Stored, underWay}
 use Rattle.model.specs.Shape.{wellShaped}
 use Rattle.model.specs.Event.{padded}
-use Rattle.save_text.specs.Text.{textOf}
+use Rattle.model.specs.Losses.{lostAll}
+use Rattle.save_text.specs.Text.{textIn, textOf, firstSpelling}
 use Rattle.save_text.specs.Reading.{readText}
 
 -- a table of numbers as a caller has it: a row for each site, of an entry for each site
@@ -39,6 +40,10 @@ ReadBack = (s : Stored) → IsState s → wellShaped s ≡ true → readText (te
 -- "and a text is accepted only if the writer would produce it".
 unfoldable pub WrittenBack : Type 0
 WrittenBack = (text : List ℕ) (s : Stored) → readText text ≡ some s → (wellShaped s ≡ true) × (textOf s ≡ text)
+
+-- Request 2.3: where no fail under way has a number, the text is the one of the version before. So its texts are read, and written back as they are.
+unfoldable pub FirstSpelled : Type 0
+FirstSpelled = (s : Stored) → wellShaped s ≡ true → lostAll (underWay s) ≡ underWay s → textIn firstSpelling s ≡ textOf s
 
 -- the length of the longest text: 31 sites, each with all 31 in its set, every number as long as it may be, 1,024 messages with a named site
 abbrev pub longest : ℕ

@@ -18,7 +18,7 @@ use Rattle.player_grammar.specs.Grammar.{meaningOf}
 use Rattle.player_text.specs.Player.{sizeIn, setIn}
 use Rattle.save_lines.specs.Lines.{linesIn, numbersIn}
 use Rattle.save_fields.specs.Fields.{nth, modeFrom, arbiterFrom, rowFrom, messageFrom}
-use Rattle.save_text.specs.Text.{Spelling, textIn, firstSpelling}
+use Rattle.save_text.specs.Text.{Spelling, textIn, thisSpelling}
 
 -- line i of a text, from 0, and its numbers
 abbrev pub lineAt : List (List ℕ) → ℕ → List ℕ
@@ -115,4 +115,4 @@ accepts spelling text s = cond (isTextOf spelling text s) (some s) none
 
 -- what a text says
 unfoldable pub readText : List ℕ → Option Stored
-readText text = accepts firstSpelling text (stateFrom (linesIn text))
+readText text = accepts thisSpelling text (stateFrom (linesIn text))

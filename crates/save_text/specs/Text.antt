@@ -1,15 +1,18 @@
 -- Request 2.2: "Write a state as key=value lines in one fixed order ... Keys run: sites, each set, accepted, each site's fields, each arbiter's
 -- fields, each message." docs/TEXT.md has the spelling.
 use Prim.Native.Nat.{ℕ, zero, suc}
+use mathlib.Core.Bool.{not}
 use mathlib.Core.List.{List, [], _∷_, _++_, map}
+use lib.Dec.{eqb}
 use Rattle.rig.specs.declared.Message.{Message}
 use Rattle.rig.specs.Limits.{siteLimit}
+use Rattle.rig.specs.Messages.{FAIL}
 use Rattle.model.specs.Tables.{at}
 use Rattle.model.specs.State.{Tables, Stored, underWay, sizeOf, setsOf, hasMember, siteOf, arbiterOf}
 use Rattle.player_grammar.specs.Grammar.{sitesWord, setWord}
 use Rattle.plan_lines.specs.Lines.{membersUpTo}
 use Rattle.save_lines.specs.Lines.{Field, field, fieldsText}
-use Rattle.save_fields.specs.Fields.{modeNumbers, holderNumbers, entries, messageNumbers}
+use Rattle.save_fields.specs.Fields.{modeNumbers, holderNumbers, entries, numbersWith, messageNumbers}
 
 -- `accepted=`, `clock=`, `mode=`, `held=`, `heir=`, `inquired=`, `grant=`, `holder=`, `queued=`, `message=`
 abbrev pub acceptedWord : List ℕ
@@ -79,7 +82,7 @@ fieldsIn spelling s =
 unfoldable pub textIn : Spelling → Stored → List ℕ
 textIn spelling s = fieldsText (fieldsIn spelling s)
 
--- The first version.
+-- The fields of this version.
 
 -- site k: its clock, its mode, and for each member, ascending, the number held, the heir, the remembered inquire's number
 unfoldable pub siteFields : Tables → ℕ → List Field
@@ -102,9 +105,16 @@ arbiterFields t j =
 unfoldable pub messageField : Message → Field
 messageField m = field messageWord (messageNumbers m)
 
-unfoldable pub firstSpelling : Spelling
-firstSpelling = record { site = siteFields; arbiter = arbiterFields; message = messageField }
+unfoldable pub thisSpelling : Spelling
+thisSpelling = record { site = siteFields; arbiter = arbiterFields; message = messageField }
 
 -- the text of a state
 unfoldable pub textOf : Stored → List ℕ
-textOf s = textIn firstSpelling s
+textOf s = textIn thisSpelling s
+
+-- Request 2.2's version: no fail has a number.
+unfoldable pub firstMessageField : Message → Field
+firstMessageField m = field messageWord (numbersWith m (not (eqb (m .kind) FAIL)))
+
+unfoldable pub firstSpelling : Spelling
+firstSpelling = record { site = siteFields; arbiter = arbiterFields; message = firstMessageField }

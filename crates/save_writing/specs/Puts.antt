@@ -12,7 +12,7 @@ use Rattle.player_bytes.specs.Wrote.{Wrote}
 use Rattle.save_lines.specs.Lines.{Field, field, fieldsText}
 use Rattle.save_fields.specs.Fields.{entries}
 use Rattle.save_fields.specs.declared.Value.{Value}
-use Rattle.save_text.specs.Text.{heldWord, heirWord, inquiredWord, setField, fieldsIn, siteFields, arbiterFields, messageField, firstSpelling}
+use Rattle.save_text.specs.Text.{heldWord, heirWord, inquiredWord, setField, fieldsIn, siteFields, arbiterFields, messageField, thisSpelling}
 
 -- the page has room for the lines of these fields, from place p on
 pub record Fits (fs : List Field) (p : ℕ) (page : List ℕ) : Type 0 where
@@ -49,4 +49,4 @@ messageLines rows k = messageField (messageOf (at [] rows k)) ∷ []
 
 -- the fields of a state
 abbrev pub stateLines : Stored → List Field
-stateLines s = fieldsIn firstSpelling s
+stateLines s = fieldsIn thisSpelling s

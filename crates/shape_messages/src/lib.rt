@@ -3,17 +3,18 @@ use rig::Message;
 use rig::Rig;
 use rig_reads::both_tied;
 use rig_reads::is_given;
+use rig_reads::is_number;
 use rig_reads::is_site;
 use rig_reads::tied;
 ghost use mathlib.Core.Path.{_≡_};
 ghost use Rattle.model.specs.Shape.{numberShaped, plainShaped, releaseShaped, aboutShaped, messageShaped};
 
-// "`number` is 0 in a fail, else at least 1"
+// A number of at least 1; in a fail also 0.
 fn number_shaped(m: Message) -> bool
     ensures { λ r. ⌜ r ≡ numberShaped m ⌝ }
 {
     if m.kind == Message::FAIL {
-        return m.number == 0;
+        return is_number(m.number);
     }
     is_given(m.number)
 }

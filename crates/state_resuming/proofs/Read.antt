@@ -21,7 +21,7 @@ use Rattle.player_text.specs.Calls.{FitsEvents}
 use Rattle.save_fields.specs.Fields.{rowUpTo, rowFrom}
 use Rattle.save_lines.specs.Lines.{linesIn}
 use Rattle.save_rows.specs.Rows.{noneRead, readCode}
-use Rattle.save_text.specs.Text.{firstSpelling}
+use Rattle.save_text.specs.Text.{thisSpelling}
 use Rattle.save_text.specs.Claims.{WrittenBack}
 use Rattle.save_text.specs.Reading.{upTo, arrayOf, ownRow, tablesOf, stateFrom, isTextOf, accepts, readText}
 use Rattle.save_text.proofs.Arrays.{upto-length}
@@ -34,7 +34,7 @@ given-by : (text : List ℕ) (s : Stored) → readText text ≡ some s → state
 unfolding readText accepts
 given-by text s e =
     let a = stateFrom (linesIn text) in
-    by-bool (isTextOf firstSpelling text a) (λ b. Option·some-injective a s (rw b at e)) (λ b. absurd (Option·none-ne-some s (rw b at e)))
+    by-bool (isTextOf thisSpelling text a) (λ b. Option·some-injective a s (rw b at e)) (λ b. absurd (Option·none-ne-some s (rw b at e)))
 
 -- the rows of an array
 module _ {A : Type 0} (P : A → Type 0) where

@@ -12,8 +12,8 @@ use Rattle.arbiter_answers.proofs.answers.Tie as tie
 head-requires : tie.Need-head-requires
 head-requires c κs = search needs
 
-fail-requires : tie.Need-fail-requires
-fail-requires c κs = search needs
+fail-to-requires : tie.Need-fail-to-requires
+fail-to-requires c κs = search needs
 
 append-requires : tie.Need-append-requires
 append-requires c κs = search needs
@@ -23,7 +23,7 @@ same-length c = search needs
 
 returns : tie.Need-returns
 unfolding answers headOf
-returns c = rw (ne-eqb _ _ (rw (c .before .before .before .before .before .head .ensures) at (c .before .before .before .before .if1 .taken))) (sent-one (c .before .before .fail .ensures) (c .before .append .ensures))
+returns c = rw (ne-eqb _ _ (rw (c .before .before .before .before .before .head .ensures) at (c .before .before .before .before .if1 .taken))) (sent-one (c .before .before .fail-to .ensures) (c .before .append .ensures))
 
 fail-former-requires : tie.Need-fail-former-requires
 fail-former-requires c κs = search needs
@@ -54,7 +54,7 @@ answers-spec =
     tie.close
     (tie.spec
     head-requires
-    fail-requires
+    fail-to-requires
     append-requires
     same-length
     returns

@@ -15,13 +15,13 @@ returns : tie.Need-returns
 unfolding inquireOrFail
 returns c = rw (sym (c .before .before .before .before-holder .ensures) ∙ c .before .before .if1 .taken) (c .inquire-of .ensures)
 
-fail-requires : tie.Need-fail-requires
-fail-requires c κs = search needs
+fail-to-requires : tie.Need-fail-to-requires
+fail-to-requires c κs = search needs
 
 returns-2 : tie.Need-returns-2
 unfolding inquireOrFail
-returns-2 c = rw (sym (c .before .before .before-holder .ensures) ∙ c .before .if1 .left) (c .fail .ensures)
+returns-2 c = rw (sym (c .before .before .before-holder .ensures) ∙ c .before .if1 .left) (c .fail-to .ensures)
 
 pub inquire-or-fail-spec : {M : Type 1} → statement M
 inquire-or-fail-spec =
-    tie.close (tie.spec before-holder-requires inquire-of-requires returns fail-requires returns-2)
+    tie.close (tie.spec before-holder-requires inquire-of-requires returns fail-to-requires returns-2)

@@ -4,34 +4,34 @@
 use Prim.Native.Nat.{ℕ, _≤_, _<_}
 use mathlib.Core.Path.{_≡_, refl}
 use mathlib.Core.Logic.{_≢_}
-use mathlib.Core.Bool.{true, not}
+use mathlib.Core.Bool.{true, false, not}
 use mathlib.Core.List.{List, _∷_}
 use native.Mathlib.Omega.{arith}
 use lib.Dec.{eqb}
-use borrow.Author.Tests.{eqb-true, eqb-false, ne-eqb, not-true}
+use borrow.Author.Tests.{eqb-true, eqb-false, eq-eqb, ne-eqb, not-true}
 use Rattle.basics.specs.Helpers.{update, tally}
 use Rattle.protocol.specs.Message.{Message, fail}
 use Rattle.protocol.specs.Setting.{Setting}
 use Rattle.protocol.specs.Local.{WAITING, Local, view, withSites}
 use Rattle.protocol.specs.Arbiter.{headOf, beforeHolder}
-use Rattle.protocol.specs.Site.{mustYield, onFail}
+use Rattle.protocol.specs.Site.{answersAsk, failCounts, mustYield, onFail}
 use Rattle.protocol.specs.Rig.{asked}
 use Rattle.basics.proofs.Basics.{by-bool, clash, and-split, and-true, not-of}
 use Rattle.basics.proofs.Lists.{All}
-use Rattle.protocol.proofs.Invariant.{Ghost, FREE, HELD, isInquire, Ordered, Ascending, InquiryFits, Core, Invariant}
+use Rattle.protocol.proofs.Invariant.{Ghost, FREE, HELD, isFailFor, isInquire, Ordered, Ascending, InquiryFits, Core, Invariant}
 use Rattle.protocol.proofs.Sending.{take-quiet}
-use Rattle.protocol.proofs.Kept.Yielded.{OwedBut, yielded-kept, yielder-owns}
+use Rattle.protocol.proofs.Kept.Yielded.{OwedTo, OwedBut, yielded-kept, yielder-owns}
 
 module _ (p : Setting) where
   -- the fail may have been the last thing owed to b
-  pub onFail-core : (t : Local) (o : Ghost) (b : ℕ) (ms : List Message) → Core p t o ms → ((k : ℕ) → InquiryFits t k) → (o.stage ≡ FREE → (k : ℕ) → (t.queued k) .number ≡ 0)
-      → OwedBut p t o ms b
+  pub onFail-core : (t : Local) (o : Ghost) (b n : ℕ) (ms : List Message) → Core p t o ms → ((k : ℕ) → InquiryFits t k) → (o.stage ≡ FREE → (k : ℕ) → (t.queued k) .number ≡ 0)
+      → OwedBut p t o ms b → (failCounts t.mode t.ask b n ≡ false → OwedTo p t o ms b)
       → (o.ahead ≡ 0 → o.stage ≢ FREE → o.stage ≤ HELD → o.known o.owner ≢ 0 → headOf p t.queued ≢ 0 → beforeHolder p t (headOf p t.queued) ≡ true → t.inquired o.owner ≢ t.grant → 0 < tally (isInquire o.owner t.grant) ms)
-      → ((k : ℕ) → Ascending k (t.inquired k) ms) → Invariant p (onFail p (view t ms) b)
+      → ((k : ℕ) → Ascending k (t.inquired k) ms) → Invariant p (onFail p (view t ms) b n)
   unfolding onFail update
-  onFail-core t o b ms c inquiriesFit freeQueueEmpty ow asked ascending =
-      by-bool (eqb (t.mode b) WAITING)
-      (λ e. let w = eqb-true (t.mode b) WAITING e in
+  onFail-core t o b n ms c inquiriesFit freeQueueEmpty ow idle asked ascending =
+      by-bool (failCounts t.mode t.ask b n)
+      (λ e. let w = eqb-true (t.mode b) WAITING (and-split (eqb (t.mode b) WAITING) _ e .0) in
       by-bool (mustYield p t b)
       (λ f. let v = and-split (not (eqb (t.held b) 0)) (not (eqb (t.inquired b) 0)) (and-split (p .member b) _ f .1) in
       let hb = eqb-false (t.held b) 0 (not-true _ (v .0)) in let ib = eqb-false (t.inquired b) 0 (not-true _ (v .1)) in
@@ -50,7 +50,7 @@ module _ (p : Setting) where
           owed = record {
             inquireOwed = asked;
             ascending = ascending;
-            failOwed = λ k a ne f z. by-bool (eqb k b) (λ y. absurd (eqb-false (t.mode b) WAITING e (rw (eqb-true k b y) at (c .asks .knownWaits k a .0)))) (λ y. ow k (eqb-false k b y) a ne f z);
+            failOwed = λ k. by-bool (eqb k b) (λ y. rw (eqb-true k b y) (idle e)) (λ y. ow k (eqb-false k b y));
           };
         },
       ))
@@ -84,19 +84,26 @@ module _ (p : Setting) where
       )
 
   -- another arbiter's fail
-  pub failSeen-kept : (t : Local) (b : ℕ) (ms : List Message) → Invariant p (view t ms) → Invariant p (onFail p (view t ms) b)
-  failSeen-kept t b ms (o, s) = onFail-core t o b ms (s .core) (s .inquiriesFit) (s .freeQueueEmpty) (λ k ne. s .owed .failOwed k) (s .owed .inquireOwed) (s .owed .ascending)
+  pub failSeen-kept : (t : Local) (b n : ℕ) (ms : List Message) → Invariant p (view t ms) → Invariant p (onFail p (view t ms) b n)
+  failSeen-kept t b n ms (o, s) = onFail-core t o b n ms (s .core) (s .inquiriesFit) (s .freeQueueEmpty) (λ k ne. s .owed .failOwed k) (λ e. s .owed .failOwed b) (s .owed .inquireOwed) (s .owed .ascending)
 
   -- this arbiter's own fail
-  pub onFail-kept : (t : Local) (b n : ℕ) (ms : List Message) → Invariant p (view t (fail b n ∷ ms)) → Invariant p (onFail p (view t ms) b)
+  pub onFail-kept : (t : Local) (b n : ℕ) (ms : List Message) → Invariant p (view t (fail b n ∷ ms)) → Invariant p (onFail p (view t ms) b n)
   unfolding All Ordered tally Ascending
   onFail-kept t b n ms (o, s) =
       let v = s .core in
       let underWay = v .underWay in
-      onFail-core t o b ms (record {
+      onFail-core t o b n ms (record {
         arbiter = v .arbiter;
         asks = v .asks;
         column = v .column;
         underWay = take-quiet p (fail b n) ms refl (λ i. refl) (λ h x g. refl) underWay;
       })
-      (s .inquiriesFit) (s .freeQueueEmpty) (λ k ne. rw (ne-eqb k b ne) at (s .owed .failOwed k)) (s .owed .inquireOwed) (λ k. s .owed .ascending k .1)
+      (s .inquiriesFit) (s .freeQueueEmpty) (λ k ne. rw (ne-eqb k b ne) at (s .owed .failOwed k)) idle (s .owed .inquireOwed) (λ k. s .owed .ascending k .1)
+    where
+      -- a fail for another ask is nothing that is owed to b
+      idle : failCounts t.mode t.ask b n ≡ false → OwedTo p t o ms b
+      idle e a =
+          let w = eq-eqb (t.mode b) WAITING (s .core .asks .knownWaits b a .0) in
+          let no : answersAsk (t.ask b) n ≡ false = rw w at e in
+          rw (eq-eqb b b refl, no) at (s .owed .failOwed b a)

@@ -18,7 +18,7 @@ use Rattle.protocol.specs.Arbiter.{headOf, granted, grantedHead}
 use Rattle.basics.proofs.Basics.{by-bool, clash, update-same, update-other}
 use Rattle.basics.proofs.Lists.{tally-snoc-no, tally-snoc-yes, all-snoc, all-map-not}
 use Rattle.protocol.proofs.Asks.{same-number}
-use Rattle.protocol.proofs.Invariant.{Ghost, FREE, OUT, ghost, carriesPermission, isRequestOf, isFailTo, Ascending, InquiryFits, Fits, Owed, Core, Invariant}
+use Rattle.protocol.proofs.Invariant.{Ghost, FREE, OUT, ghost, carriesPermission, isRequestOf, isFailFor, Ascending, InquiryFits, Fits, Owed, Core, Invariant}
 use Rattle.protocol.proofs.Sending.{ordered-snoc, send-transfer}
 use Rattle.protocol.proofs.Fitting.{fits-change}
 use Rattle.protocol.proofs.Owing.{owed-send}
@@ -26,8 +26,8 @@ use Rattle.protocol.proofs.Head.{asym, head-of}
 
 module _ (p : Setting) where
   -- what is owed while the permission is free
-  pub record OwedWhenFree (q : ℕ → Ask) (failed : ℕ → Bool) (inquired : ℕ → ℕ) (known : ℕ → ℕ) (ms : List Message) : Type 0 where
-    pub failOwed : (k : ℕ) → known k ≢ 0 → failed k ≡ false → tally (isFailTo k) ms ≡ 0 → headOf p q ≡ k
+  pub record OwedWhenFree (q ask : ℕ → Ask) (failed : ℕ → Bool) (inquired : ℕ → ℕ) (known : ℕ → ℕ) (ms : List Message) : Type 0 where
+    pub failOwed : (k : ℕ) → known k ≢ 0 → failed k ≡ false → tally (isFailFor k (ask k)) ms ≡ 0 → headOf p q ≡ k
     pub ascending : (k : ℕ) → Ascending k (inquired k) ms
 
 module _ (p : Setting) (law : SettingLaw p) where
@@ -91,8 +91,8 @@ module _ (p : Setting) (law : SettingLaw p) where
       }
 
   -- nothing new is owed
-  granted-owed : (t : Local) (known : ℕ → ℕ) (k : ℕ) (a : Ask) (ms : List Message) → Core p t (ghost 0 0 FREE known) ms → known k ≢ 0 → a ≡ t.queued k → headOf p t.queued ≡ k → OwedWhenFree p t.queued t.failed t.inquired known ms
-      → Owed p (suc t.grant) k a (update t.queued k noAsk) t.failed t.inquired k 0 1 known (ms ++ reply (p .arbiter) k (suc t.grant) ∷ [])
+  granted-owed : (t : Local) (known : ℕ → ℕ) (k : ℕ) (a : Ask) (ms : List Message) → Core p t (ghost 0 0 FREE known) ms → known k ≢ 0 → a ≡ t.queued k → headOf p t.queued ≡ k → OwedWhenFree p t.queued t.ask t.failed t.inquired known ms
+      → Owed p (suc t.grant) k a (update t.queued k noAsk) t.ask t.failed t.inquired k 0 1 known (ms ++ reply (p .arbiter) k (suc t.grant) ∷ [])
   granted-owed t known k a ms c kk nq hk l =
       let r = head-of p law t.queued (p .size) in
       let k1 = law .siteInRange k (c .asks .knownWaits k kk .1) in
@@ -114,7 +114,7 @@ module _ (p : Setting) (law : SettingLaw p) where
 
   -- the grant of the head
   pub granted-kept : (t : Local) (known : ℕ → ℕ) (k : ℕ) (a : Ask) (ms : List Message) → Core p t (ghost 0 0 FREE known) ms → ((i : ℕ) → InquiryFits t i) → known k ≢ 0 → a ≡ t.queued k → a ≡ t.ask k
-      → headOf p t.queued ≡ k → OwedWhenFree p t.queued t.failed t.inquired known ms → Invariant p (granted p (view t ms) k a)
+      → headOf p t.queued ≡ k → OwedWhenFree p t.queued t.ask t.failed t.inquired known ms → Invariant p (granted p (view t ms) k a)
   unfolding granted
   granted-kept t known k a ms c inquiriesFit kk nq nk hk l =
       let v = granted-core t known k a ms c kk nk in
@@ -140,7 +140,7 @@ module _ (p : Setting) (law : SettingLaw p) where
       ))
 
   -- the grant of the head, if any
-  pub grantedHead-kept : (t : Local) (known : ℕ → ℕ) (ms : List Message) → Core p t (ghost 0 0 FREE known) ms → ((i : ℕ) → InquiryFits t i) → OwedWhenFree p t.queued t.failed t.inquired known ms → Invariant p (grantedHead p (view t ms))
+  pub grantedHead-kept : (t : Local) (known : ℕ → ℕ) (ms : List Message) → Core p t (ghost 0 0 FREE known) ms → ((i : ℕ) → InquiryFits t i) → OwedWhenFree p t.queued t.ask t.failed t.inquired known ms → Invariant p (grantedHead p (view t ms))
   unfolding grantedHead
   grantedHead-kept t known ms c inquiriesFit l =
       let r = head-of p law t.queued (p .size) in

@@ -17,7 +17,7 @@ use Rattle.protocol.specs.Local.{Local, view}
 use Rattle.protocol.specs.Arbiter.{fromHolder, heldByHeir, headOf, heirTakesOver, onHandOver}
 use Rattle.basics.proofs.Basics.{by-bool, clash, and-split, update-other}
 use Rattle.basics.proofs.Lists.{All, all-map, snoc-pos, snoc-zero}
-use Rattle.protocol.proofs.Invariant.{FREE, ghost, isHandOver, isFailTo, isInquire, Ordered, Ascending, InquiryFits, Fits, OwedIn, Core, Invariant}
+use Rattle.protocol.proofs.Invariant.{FREE, ghost, isHandOver, isFailFor, isInquire, Ordered, Ascending, InquiryFits, Fits, OwedIn, Core, Invariant}
 use Rattle.protocol.proofs.Sending.{send-inquire, send-transfer}
 use Rattle.protocol.proofs.Fitting.{fix, fits-change}
 use Rattle.protocol.proofs.Owing.{ascending-other, ascending-inquire, inquired-low, fix-owed}
@@ -80,7 +80,7 @@ module _ (p : Setting) (law : SettingLaw p) where
       let mx = c .arbiter .whenTaken s0 .0 in
       let x1 = law .siteInRange x mx in
       let ov = c .arbiter .handedOver (λ z. omega arith) in
-      let ow : (i : ℕ) → known i ≢ 0 → i ≢ x → t.failed i ≡ false → tally (isFailTo i) ms ≡ 0 → (headOf p q1 ≡ i) × (p .comesBefore (q1 i) i (t.queued x) x ≡ true) =
+      let ow : (i : ℕ) → known i ≢ 0 → i ≢ x → t.failed i ≡ false → tally (isFailFor i (t.ask i)) ms ≡ 0 → (headOf p q1 ≡ i) × (p .comesBefore (q1 i) i (t.queued x) x ≡ true) =
       λ i a ne f z. let w = l .failOwed i a ne f z in
       let i1 = law .siteInRange i (c .asks .knownWaits i a .1) in
       let hz : headOf p t.queued ≢ 0 = (λ y. let u = w .0 in omega arith) in
@@ -109,7 +109,7 @@ module _ (p : Setting) (law : SettingLaw p) where
           inquiriesFit = inquiriesFit;
           freeQueueEmpty = λ z. absurd (s0 z);
           owed = record {
-            failOwed = λ i a ne f z. ow i a ne f (snoc-zero (isFailTo i) ms tr (snoc-zero (isFailTo i) (ms ++ tr ∷ []) (inquire x (suc t.grant)) z));
+            failOwed = λ i a ne f z. ow i a ne f (snoc-zero (isFailFor i (t.ask i)) ms tr (snoc-zero (isFailFor i (t.ask i)) (ms ++ tr ∷ []) (inquire x (suc t.grant)) z));
             inquireOwed = λ a b d y hd z u. snoc-pos (isInquire x (suc t.grant)) (ms ++ tr ∷ []) (inquire x (suc t.grant)) (rw (eq-eqb x x refl, eq-eqb (suc t.grant) (suc t.grant) refl));
             ascending = ascending-inquire p t.inquired x (ms ++ tr ∷ []) m1 (inquired-low p (v .column)) a1;
           };
@@ -127,7 +127,7 @@ module _ (p : Setting) (law : SettingLaw p) where
           inquiriesFit = inquiriesFit;
           freeQueueEmpty = λ z. absurd (s0 z);
           owed = record {
-            failOwed = λ i a ne f z. ow i a ne f (snoc-zero (isFailTo i) ms tr z);
+            failOwed = λ i a ne f z. ow i a ne f (snoc-zero (isFailFor i (t.ask i)) ms tr z);
             inquireOwed = λ a b1 d y hd z. clash (p .comesBefore (q1 (headOf p q1)) (headOf p q1) (t.queued x) x) z b;
             ascending = a1;
           };

@@ -17,8 +17,8 @@ use Rattle.protocol.specs.Local.{WAITING, Local, view, send, withArbiter
 use Rattle.protocol.specs.Arbiter.{headOf, beforeHolder, granted, failTo, formerTold, failFormer, inquireOrFail, answers, queuedUp, onRequest}
 use Rattle.basics.proofs.Basics.{by-bool, clash, and-true, not-of, update-same, update-other, update-update}
 use Rattle.basics.proofs.Lists.{All, all-map, snoc-pos, snoc-keep, snoc-zero, snoc-none, tally-mono}
-use Rattle.protocol.proofs.Asks.{same-number}
-use Rattle.protocol.proofs.Invariant.{Ghost, FREE, OUT, HELD, YIELDED, RELEASED, ghost, carriesPermission, isRequestOf, isReturnOf, isHandOver, isFailTo, isInquire, Ordered, Ascending, situation, InquiryFits, Fits, Owed, OwedIn, UnderWayIn, Core, Invariant}
+use Rattle.protocol.proofs.Asks.{same-number, answers-own}
+use Rattle.protocol.proofs.Invariant.{Ghost, FREE, OUT, HELD, YIELDED, RELEASED, ghost, carriesPermission, isRequestOf, isReturnOf, isHandOver, isFailFor, isInquire, Ordered, Ascending, situation, InquiryFits, Fits, Owed, OwedIn, UnderWayIn, Core, Invariant}
 use Rattle.protocol.proofs.Sending.{send-fail, send-inquire, send-transfer}
 use Rattle.protocol.proofs.Fitting.{handOver-returns, fix, permission-returns, fits-change}
 use Rattle.protocol.proofs.Owing.{ascending-other, ascending-inquire, inquired-low}
@@ -108,9 +108,15 @@ module _ (p : Setting) (law : SettingLaw p) where
           };
         }
 
+  -- a fail to a known site that is queued is for its ask
+  fail-for : (t : Local) (o : Ghost) (i k : ℕ) (ms : List Message) → Core p t o ms → o.known i ≢ 0 → i ≢ o.owner → i ≡ k → isFailFor i (t.ask i) (failTo t k) ≡ true
+  fail-for t o i k ms c a ne e =
+      let q : (t.queued k) .number ≡ (t.ask i) .number = rw (← e) (same-number (c .asks .queuedIfKnown i ne a)) in
+      rw (eq-eqb i k e) (answers-own (t.ask i) _ q)
+
   -- with a holder: only messages that carry nothing go out. All but k were told or will be, or the former head is told now.
   answers-kept : (t : Local) (o : Ghost) (k old : ℕ) (ms : List Message) → Core p t o ms → ((i : ℕ) → InquiryFits t i) → o.stage ≢ FREE → (t.queued k) .number ≢ 0 → (old ≢ 0 → (t.queued old) .number ≢ 0)
-      → headOf p t.queued ≡ k → ((i : ℕ) → o.known i ≢ 0 → i ≢ o.owner → i ≢ k → t.failed i ≡ false → tally (isFailTo i) ms ≡ 0 → (old ≡ i) × (beforeHolder p t i ≡ true)) → ((i : ℕ) → Ascending i (t.inquired i) ms)
+      → headOf p t.queued ≡ k → ((i : ℕ) → o.known i ≢ 0 → i ≢ o.owner → i ≢ k → t.failed i ≡ false → tally (isFailFor i (t.ask i)) ms ≡ 0 → (old ≡ i) × (beforeHolder p t i ≡ true)) → ((i : ℕ) → Ascending i (t.inquired i) ms)
       → Invariant p (answers p (view t ms) k old)
   unfolding answers failFormer inquireOrFail
   answers-kept t o k old ms c inquiriesFit s0 qk qo hk ow ascending =
@@ -119,8 +125,8 @@ module _ (p : Setting) (law : SettingLaw p) where
       let ek = eq-eqb (headOf p t.queued) k hk in
       by-bool (formerTold p t k old)
       (λ e. rw (ek, e) (rest _ mk busy (send-fail p ms old _ (queued-member p law t o ms c old (qo (λ z. let y : eqb old 0 ≡ true = eq-eqb old 0 z in clash true refl (sym (rw y at e))))) (c .underWay))
-      (λ i a ne nk f z. snoc-none (isFailTo i) ms (failTo p t old) (eq-eqb i old (sym (ow i a ne nk f (snoc-zero (isFailTo i) ms (failTo p t old) z) .0))) z)
-      (λ i. ascending-other i (t.inquired i) ms (failTo p t old) refl (ascending i))))
+      (λ i a ne nk f z. let e1 = sym (ow i a ne nk f (snoc-zero (isFailFor i (t.ask i)) ms (failTo t old) z) .0) in snoc-none (isFailFor i (t.ask i)) ms (failTo t old) (fail-for t o i old ms c a ne e1) z)
+      (λ i. ascending-other i (t.inquired i) ms (failTo t old) refl (ascending i))))
       (λ e. rw (ek, e) (rest _ mk busy (c .underWay)
       (λ i a ne nk f z. let w = ow i a ne nk f z in let i1 = law .siteInRange i (c .asks .knownWaits i a .1) in let oi = w .0 in
       clash (formerTold p t k old)
@@ -128,8 +134,8 @@ module _ (p : Setting) (law : SettingLaw p) where
       ascending))
     where
       rest : (ms′ : List Message) → p .member k ≡ true → (p .member o.owner ≡ true) × (p .member t.holder ≡ true) × (1 ≤ t.holderAsk.number) × (1 ≤ t.grant) → UnderWayIn p t o ms′
-          → ((i : ℕ) → o.known i ≢ 0 → i ≢ o.owner → i ≢ k → t.failed i ≡ false → tally (isFailTo i) ms′ ≡ 0 → ⊥) → ((i : ℕ) → Ascending i (t.inquired i) ms′)
-          → Invariant p (cond (beforeHolder p t k) (send (send (view t ms′) (transfer t.holder k t.grant)) (inquire t.holder t.grant)) (send (send (view t ms′) (transfer t.holder k t.grant)) (failTo p t k)))
+          → ((i : ℕ) → o.known i ≢ 0 → i ≢ o.owner → i ≢ k → t.failed i ≡ false → tally (isFailFor i (t.ask i)) ms′ ≡ 0 → ⊥) → ((i : ℕ) → Ascending i (t.inquired i) ms′)
+          → Invariant p (cond (beforeHolder p t k) (send (send (view t ms′) (transfer t.holder k t.grant)) (inquire t.holder t.grant)) (send (send (view t ms′) (transfer t.holder k t.grant)) (failTo t k)))
       rest ms′ mk busy m none-owed asc′ =
           let m1 = send-transfer p ms′ t.holder k t.grant (busy .3) (omega arith) refl qk (busy .1) mk m in
           let tr = transfer t.holder k t.grant in
@@ -144,7 +150,7 @@ module _ (p : Setting) (law : SettingLaw p) where
               owed = record {
                 failOwed = λ i a ne f z. by-bool (eqb i k)
                     (λ y. rw (eqb-true i k y) (hk, e))
-                    (λ y. absurd (none-owed i a ne (eqb-false i k y) f (snoc-zero (isFailTo i) ms′ tr (snoc-zero (isFailTo i) ms1 (inquire t.holder t.grant) z))));
+                    (λ y. absurd (none-owed i a ne (eqb-false i k y) f (snoc-zero (isFailFor i (t.ask i)) ms′ tr (snoc-zero (isFailFor i (t.ask i)) ms1 (inquire t.holder t.grant) z))));
                 inquireOwed = λ a b d y hd z u. snoc-pos (isInquire o.owner t.grant) ms1 (inquire t.holder t.grant) (rw (eq-eqb o.owner t.holder (c .arbiter .ownerIsHolder a), eq-eqb t.grant t.grant refl));
                 ascending = ascending-inquire p t.inquired t.holder ms1 m1 (inquired-low p (c .column)) a1;
               };
@@ -158,10 +164,10 @@ module _ (p : Setting) (law : SettingLaw p) where
               freeQueueEmpty = λ z. absurd (s0 z);
               owed = record {
                 failOwed = λ i a ne f z. by-bool (eqb i k)
-                    (λ y. snoc-none (isFailTo i) ms1 (failTo p t k) y z)
-                    (λ y. absurd (none-owed i a ne (eqb-false i k y) f (snoc-zero (isFailTo i) ms′ tr (snoc-zero (isFailTo i) ms1 (failTo p t k) z))));
+                    (λ y. snoc-none (isFailFor i (t.ask i)) ms1 (failTo t k) (fail-for t o i k ms c a ne (eqb-true i k y)) z)
+                    (λ y. absurd (none-owed i a ne (eqb-false i k y) f (snoc-zero (isFailFor i (t.ask i)) ms′ tr (snoc-zero (isFailFor i (t.ask i)) ms1 (failTo t k) z))));
                 inquireOwed = λ a b d y hd z. clash (beforeHolder p t k) (rw hk at z) e;
-                ascending = λ i. ascending-other i (t.inquired i) ms1 (failTo p t k) refl (a1 i);
+                ascending = λ i. ascending-other i (t.inquired i) ms1 (failTo t k) refl (a1 i);
               };
               core = record { arbiter = c .arbiter; asks = c .asks; column = c .column; underWay = send-fail p _ k _ mk m1 };
             },
@@ -185,7 +191,7 @@ module _ (p : Setting) (law : SettingLaw p) where
       let v1 = fix p _ _ ms 0 0 FREE (sym (fr .0)) (sym (fr .1)) (sym s0) v in
       let hk : headOf p (update t.queued k new) ≡ k = head-is p law (update t.queued k new) k (k1 .0) (k1 .1) (rw (eq-eqb k k refl) (λ z. omega arith))
       (λ i lo hi q0 ne. absurd (q0 (rw (ne-eqb i k ne) (freeQueueEmpty s0 i)))) in
-      let hm : OwedWhenFree p (update t.queued k new) t.failed t.inquired (update o.known k 1) ms = record {
+      let hm : OwedWhenFree p (update t.queued k new) t.ask t.failed t.inquired (update o.known k 1) ms = record {
         ascending = ascending;
         failOwed = λ i. by-bool (eqb i k)
             (λ e. rw e (λ x f z. hk ∙ sym (eqb-true i k e)))
@@ -195,10 +201,10 @@ module _ (p : Setting) (law : SettingLaw p) where
       rw (update-update t.queued k new noAsk) at r
 
   -- k is not the head: it is told
-  failed-owed : (t : Local) (o : Ghost) (k : ℕ) (new : Ask) (n : ℕ) (ms : List Message) → Core p t o (request k new ∷ ms) → OwedIn p t o (request k new ∷ ms) → headOf p (update t.queued k new) ≢ k
-      → Owed p t.grant t.holder t.holderAsk (update t.queued k new) t.failed t.inquired o.owner o.ahead o.stage (update o.known k 1) (ms ++ fail k n ∷ [])
+  failed-owed : (t : Local) (o : Ghost) (k : ℕ) (new : Ask) (n : ℕ) (ms : List Message) → n ≡ new.number → Core p t o (request k new ∷ ms) → OwedIn p t o (request k new ∷ ms) → headOf p (update t.queued k new) ≢ k
+      → Owed p t.grant t.holder t.holderAsk (update t.queued k new) t.ask t.failed t.inquired o.owner o.ahead o.stage (update o.known k 1) (ms ++ fail k n ∷ [])
   unfolding All Fits tally Ascending
-  failed-owed t o k new n ms c l ne =
+  failed-owed t o k new n ms en c l ne =
       let ok = c .underWay .fit .0 in
       let f = new-request t o k new ms c in
       let no = not-own t o k new ms c in
@@ -207,9 +213,9 @@ module _ (p : Setting) (law : SettingLaw p) where
       let ko : update o.known k 1 o.owner ≡ o.known o.owner = update-other o.known k 1 o.owner (λ z. no (sym z)) in
       record {
         failOwed = λ i a ni fi z. by-bool (eqb i k)
-            (λ e. snoc-none (isFailTo i) ms (fail k n) e z)
+            (λ e. let q : n ≡ (t.ask i) .number = rw (eqb-true i k e, en) (sym (same-number (ok .1))) in snoc-none (isFailFor i (t.ask i)) ms (fail k n) (rw e (answers-own (t.ask i) n q)) z)
             (λ e. let nk = eqb-false i k e in
-            let w = l .failOwed i (rw (update-other o.known k 1 i nk) at a) ni fi (snoc-zero (isFailTo i) ms (fail k n) z) in
+            let w = l .failOwed i (rw (update-other o.known k 1 i nk) at a) ni fi (snoc-zero (isFailFor i (t.ask i)) ms (fail k n) z) in
             (sym same ∙ w .0, rw (update-other t.queued k new i nk) (w .1)));
         inquireOwed = λ u v x d hd b g1. snoc-keep (isInquire o.owner t.grant) ms (fail k n) (l .inquireOwed u v x (rw ko at d) (λ z. hd (sym same ∙ z))
             (rw same (rw (update-other t.queued k new (headOf p (update t.queued k new)) ne) at b)) g1);
@@ -241,7 +247,7 @@ module _ (p : Setting) (law : SettingLaw p) where
         record {
           inquiriesFit = s .inquiriesFit;
           freeQueueEmpty = λ z. absurd (s0 z);
-          owed = failed-owed t o k new _ ms c (s .owed) (eqb-false (headOf p q1) k g);
+          owed = failed-owed t o k new _ ms qk c (s .owed) (eqb-false (headOf p q1) k g);
           core = record {
             arbiter = v .arbiter;
             asks = v .asks;

@@ -17,7 +17,7 @@ use Rattle.protocol.specs.Arbiter.{headOf, beforeHolder}
 use Rattle.protocol.specs.Site.{yielded}
 use Rattle.basics.proofs.Basics.{by-bool}
 use Rattle.basics.proofs.Lists.{tally-snoc-no, tally-snoc-yes, all-snoc, snoc-zero}
-use Rattle.protocol.proofs.Invariant.{Ghost, HELD, YIELDED, ghost, carriesPermission, isRequestOf, isFailTo, Ascending, InquiryFits, Fits, Core, Invariant}
+use Rattle.protocol.proofs.Invariant.{Ghost, HELD, YIELDED, ghost, carriesPermission, isRequestOf, isFailFor, Ascending, InquiryFits, Fits, Core, Invariant}
 use Rattle.protocol.proofs.Sending.{ordered-snoc}
 use Rattle.protocol.proofs.Fitting.{fix, all-stage, row-stage}
 use Rattle.protocol.proofs.Owing.{ascending-low, ascending-other}
@@ -62,9 +62,12 @@ module _ (p : Setting) where
         };
       }
 
-  -- L1 of all but one site
+  -- L1 of one site, and of all but one
+  abbrev pub OwedTo : Local → Ghost → List Message → ℕ → Type 0
+  OwedTo t o ms k = o.known k ≢ 0 → k ≢ o.owner → t.failed k ≡ false → tally (isFailFor k (t.ask k)) ms ≡ 0 → (headOf p t.queued ≡ k) × (beforeHolder p t k ≡ true)
+
   abbrev pub OwedBut : Local → Ghost → List Message → ℕ → Type 0
-  OwedBut t o ms b = (k : ℕ) → k ≢ b → o.known k ≢ 0 → k ≢ o.owner → t.failed k ≡ false → tally (isFailTo k) ms ≡ 0 → (headOf p t.queued ≡ k) × (beforeHolder p t k ≡ true)
+  OwedBut t o ms b = (k : ℕ) → k ≢ b → OwedTo t o ms k
 
   -- b yields: S4 and L1 need not hold of b before
   pub yielded-kept : (t : Local) (o : Ghost) (b : ℕ) (ms : List Message) → b ≡ o.owner → 0 ≡ o.ahead → HELD ≡ o.stage → t.mode b ≡ WAITING → Core p t o ms
@@ -77,7 +80,7 @@ module _ (p : Setting) where
       inquiriesFit = λ k. by-bool (eqb k b) (λ e. rw e (λ h. absurd (h refl))) (λ e. rw e (m k (eqb-false k b e)));
       freeQueueEmpty = λ h. absurd (omega arith);
       owed = record {
-        failOwed = λ k a ne. rw (ne-eqb k b ne) (λ f u. ow k ne a (λ v. ne (v ∙ sym x)) f (snoc-zero (isFailTo k) ms (yield b (t.held b)) u));
+        failOwed = λ k a ne. rw (ne-eqb k b ne) (λ f u. ow k ne a (λ v. ne (v ∙ sym x)) f (snoc-zero (isFailFor k (t.ask k)) ms (yield b (t.held b)) u));
         inquireOwed = λ u v l. absurd (omega arith);
         ascending = λ k. ascending-other k (update t.inquired b 0 k) ms (yield b (t.held b)) refl (by-bool (eqb k b) (λ e. rw e (ascending-low k (t.inquired k) 0 ms (omega arith) (ascending k))) (λ e. rw e (ascending k)));
       };

@@ -1,7 +1,7 @@
 -- `put_lines`: the parts of a state's lines, one behind the other.
 use borrow.Author.Needs.{needs}
 use denote.Ref.{now}
-use Rattle.save_text.specs.Text.{sitesField, acceptedField, fieldsIn, firstSpelling}
+use Rattle.save_text.specs.Text.{sitesField, acceptedField, fieldsIn, thisSpelling}
 use Rattle.save_writing.proofs.Puts.{fits-line, fits-behind, fits-first, fits-rest, puts-line, puts-more, messages-fit, messages-put}
 use Rattle.save_writing.proofs.put_lines.Statement.{statement}
 use Rattle.save_writing.proofs.put_lines.Tie as tie
@@ -10,11 +10,11 @@ slice-aggregate-put-one : tie.Need-slice-aggregate-put-one
 slice-aggregate-put-one c = search needs
 
 put-one-requires : tie.Need-put-one-requires
-unfolding sitesField fieldsIn firstSpelling
+unfolding sitesField fieldsIn thisSpelling
 put-one-requires c κs = fits-line (c .before .before .before .pre .2)
 
 put-sets-requires : tie.Need-put-sets-requires
-unfolding sitesField acceptedField fieldsIn firstSpelling
+unfolding sitesField acceptedField fieldsIn thisSpelling
 put-sets-requires c κs =
     let sites = c .before .before .before .before .before .before in
     let h = sites .before .before .before .before .pre in
@@ -25,7 +25,7 @@ slice-aggregate-put-one-2 : tie.Need-slice-aggregate-put-one-2
 slice-aggregate-put-one-2 c = search needs
 
 put-one-requires-2 : tie.Need-put-one-requires-2
-unfolding sitesField acceptedField fieldsIn firstSpelling
+unfolding sitesField acceptedField fieldsIn thisSpelling
 put-one-requires-2 c κs =
     let sets = c .before .before .before .before in
     let sites = sets .before .before .before .before .before .before .before in
@@ -35,7 +35,7 @@ put-one-requires-2 c κs =
     fits-line f2
 
 put-sites-requires : tie.Need-put-sites-requires
-unfolding sitesField acceptedField fieldsIn firstSpelling
+unfolding sitesField acceptedField fieldsIn thisSpelling
 put-sites-requires c κs =
     let accepted = c .before .before .before in
     let sets = accepted .before .before .before .before .before in
@@ -47,7 +47,7 @@ put-sites-requires c κs =
     (h .0, fits-first _ _ f3)
 
 put-arbiters-requires : tie.Need-put-arbiters-requires
-unfolding sitesField acceptedField fieldsIn firstSpelling
+unfolding sitesField acceptedField fieldsIn thisSpelling
 put-arbiters-requires c κs =
     let placed = c .before .before .before in
     let accepted = placed .before .before .before .before in
@@ -61,7 +61,7 @@ put-arbiters-requires c κs =
     (h .0, fits-first _ _ f4)
 
 put-messages-requires : tie.Need-put-messages-requires
-unfolding sitesField acceptedField fieldsIn firstSpelling
+unfolding sitesField acceptedField fieldsIn thisSpelling
 put-messages-requires c κs =
     let granted = c .before .before .before in
     let placed = granted .before .before .before .before in
@@ -81,7 +81,7 @@ same-length : tie.Need-same-length
 same-length c = search needs
 
 returns : tie.Need-returns
-unfolding sitesField acceptedField fieldsIn firstSpelling
+unfolding sitesField acceptedField fieldsIn thisSpelling
 returns c =
     let messages = c .before .before in
     let granted = messages .before .before .before .before in
