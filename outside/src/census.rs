@@ -6,8 +6,9 @@ use std::fmt;
 use crate::model::{Body, Claim, Event, Message, Mode, Refusal, Rig};
 
 /// Every case told apart below: first the rules, then the limits.
-const CASES: [&str; 31] = [
+const CASES: [&str; 32] = [
     "ask",
+    "fail: about another ask",
     "fail: not waiting",
     "fail: nothing to yield",
     "fail: yields",
@@ -169,9 +170,12 @@ fn case_of(rig: &Rig, message: Message, sent: &[Message]) -> &'static str {
             Some(held) if held == grant => "inquire: remembered, held",
             Some(_) => "inquire: other number held",
         },
-        Body::Fail if !waiting => "fail: not waiting",
-        Body::Fail if yields => "fail: yields",
-        Body::Fail => "fail: nothing to yield",
+        Body::Fail { seq } => match desk.mode {
+            Mode::Waiting { seq: own, .. } if seq.is_some_and(|seq| seq != own) => "fail: about another ask",
+            Mode::Waiting { .. } if yields => "fail: yields",
+            Mode::Waiting { .. } => "fail: nothing to yield",
+            _ => "fail: not waiting",
+        },
         Body::Transfer { grant, .. } if desk.tie(from).held == Some(grant) => "transfer: names an heir",
         Body::Transfer { .. } => "transfer: old",
     }

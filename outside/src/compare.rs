@@ -9,7 +9,7 @@ use std::thread;
 use std::time::{Duration, Instant};
 
 use crate::census::Census;
-use crate::model::{play, play_with};
+use crate::model::{play_by, play_with, Version};
 use crate::random::Random;
 use crate::shrink::shrink;
 use crate::subject::{Ending, Subject};
@@ -18,6 +18,8 @@ use crate::texts::{self, Text};
 /// What to compare, and for how long.
 #[derive(Clone, Debug)]
 pub struct Plan {
+    /// By which rules the model plays.
+    pub version: Version,
     /// The seed of the random texts.
     pub seed: u64,
     /// How many texts to play at most.
@@ -74,7 +76,7 @@ pub fn compare(subject: &Subject, plan: &Plan) -> Result<bool, String> {
                 if over || stopped.load(Ordering::Relaxed) {
                     break;
                 }
-                match one_text(subject, &source, place, &tally) {
+                match one_text(subject, &source, place, plan.version, &tally) {
                     Ok(None) => {}
                     Ok(Some(difference)) => {
                         stopped.store(true, Ordering::Relaxed);
@@ -150,11 +152,12 @@ fn one_text(
     subject: &Subject,
     source: &Source,
     place: u64,
+    version: Version,
     tally: &Mutex<Tally>,
 ) -> Result<Option<Difference>, String> {
     let (text, piece) = source.text(place);
     let mut census = Census::default();
-    let expected = play_with(&text.bytes, |rig, event| census.apply(rig, event));
+    let expected = play_with(version, &text.bytes, |rig, event| census.apply(rig, event));
     let played = subject.play(&text.bytes, piece)?;
     lock(tally).note(&text, &expected, played.ending, &census);
     let ended = matches!(played.ending, Ending::Exited(_));
@@ -171,14 +174,15 @@ fn report(subject: &Subject, plan: &Plan, difference: &Difference) -> Result<(),
     println!("DIFFERENCE at text {place} ({})", text.kind);
     let name = format!("failing-{}-{place}", plan.seed);
     save(&plan.folder.join(format!("{name}.txt")), &text.bytes)?;
-    print_difference(subject, &text.bytes, *piece)?;
+    let both = Both { subject, version: plan.version, piece: *piece };
+    both.print_difference(&text.bytes)?;
 
-    let fails = |text: &[u8]| differs(subject, text, *piece).unwrap_or(false);
-    let start = shortened(subject, &text.bytes, *piece)?;
+    let fails = |text: &[u8]| both.differ(text).unwrap_or(false);
+    let start = both.shortened(&text.bytes)?;
     let small = shrink(&start, plan.shrinking, fails);
     println!("shrunk from {} to {} bytes", text.bytes.len(), small.len());
     save(&plan.folder.join(format!("{name}-shrunk.txt")), &small)?;
-    print_difference(subject, &small, *piece)
+    both.print_difference(&small)
 }
 
 fn save(path: &Path, text: &[u8]) -> Result<(), String> {
@@ -187,24 +191,46 @@ fn save(path: &Path, text: &[u8]) -> Result<(), String> {
     Ok(())
 }
 
-fn differs(subject: &Subject, text: &[u8], piece: usize) -> Result<bool, String> {
-    let played = subject.play(text, piece)?;
-    let ended = matches!(played.ending, Ending::Exited(_));
-    Ok(!ended || played.output != play(text))
+/// The two players, and the size of the pieces a text is written in.
+struct Both<'a> {
+    subject: &'a Subject,
+    version: Version,
+    piece: usize,
 }
 
-/// The text up to the line after which the outputs differ, if it still fails
-/// then: a quick first step for long texts.
-fn shortened(subject: &Subject, text: &[u8], piece: usize) -> Result<Vec<u8>, String> {
-    let played = subject.play(text, piece)?;
-    let same = first_difference(&play(text), &played.output).0;
-    let lines: Vec<&[u8]> = text.split_inclusive(|&byte| byte == b'\n').collect();
-    let head = lines.iter().take_while(|line| line.starts_with(b"s")).count();
-    let short = lines[..lines.len().min(head + same)].concat();
-    if differs(subject, &short, piece)? {
-        Ok(short)
-    } else {
-        Ok(text.to_vec())
+impl Both<'_> {
+    fn differ(&self, text: &[u8]) -> Result<bool, String> {
+        let played = self.subject.play(text, self.piece)?;
+        let ended = matches!(played.ending, Ending::Exited(_));
+        Ok(!ended || played.output != play_by(self.version, text))
+    }
+
+    /// The text up to the line after which the outputs differ, if it still fails
+    /// then: a quick first step for long texts.
+    fn shortened(&self, text: &[u8]) -> Result<Vec<u8>, String> {
+        let played = self.subject.play(text, self.piece)?;
+        let same = first_difference(&play_by(self.version, text), &played.output).0;
+        let lines: Vec<&[u8]> = text.split_inclusive(|&byte| byte == b'\n').collect();
+        let head = lines.iter().take_while(|line| line.starts_with(b"s")).count();
+        let short = lines[..lines.len().min(head + same)].concat();
+        if self.differ(&short)? {
+            Ok(short)
+        } else {
+            Ok(text.to_vec())
+        }
+    }
+
+    fn print_difference(&self, text: &[u8]) -> Result<(), String> {
+        let expected = play_by(self.version, text);
+        let played = self.subject.play(text, self.piece)?;
+        let (line, model, other) = first_difference(&expected, &played.output);
+        println!("  first differing line of output: {line}");
+        println!("  model:  {}", shown(model));
+        println!("  player: {}   ({})", shown(other), played.ending);
+        if text.len() <= 600 {
+            println!("  text: {}", shown(text));
+        }
+        Ok(())
     }
 }
 
@@ -219,19 +245,6 @@ pub(crate) fn first_difference<'a>(a: &'a [u8], b: &'a [u8]) -> (usize, &'a [u8]
             (x, y) => return (number, x.unwrap_or_default(), y.unwrap_or_default()),
         }
     }
-}
-
-fn print_difference(subject: &Subject, text: &[u8], piece: usize) -> Result<(), String> {
-    let expected = play(text);
-    let played = subject.play(text, piece)?;
-    let (line, model, other) = first_difference(&expected, &played.output);
-    println!("  first differing line of output: {line}");
-    println!("  model:  {}", shown(model));
-    println!("  player: {}   ({})", shown(other), played.ending);
-    if text.len() <= 600 {
-        println!("  text: {}", shown(text));
-    }
-    Ok(())
 }
 
 /// Bytes made visible, at most some hundred of them.

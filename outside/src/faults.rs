@@ -4,20 +4,26 @@
 //! All are made from outside: the model itself stays free of them.
 
 use crate::model::{
-    play, play_with, Arbiter, Body, Event, Message, Mode, Refusal, Rig, Site, MOST_ACCEPTED, MOST_UNDER_WAY,
+    play, play_by, Arbiter, Body, Change, Event, Message, Mode, Refusal, Rig, Site, Version, MOST_ACCEPTED,
+    MOST_UNDER_WAY,
 };
 
 /// Plays a text.
 pub type Player = fn(&[u8]) -> Vec<u8>;
 
 /// The planted faults, by the name under which they are asked for.
-pub const FAULTS: [(&str, Player); 14] = [
+pub const FAULTS: [(&str, Player); 19] = [
     ("early-release-is-stray", |text| play_with(text, stray_early_release)),
     ("any-transfer-counts", |text| play_with(text, any_transfer)),
     ("inquire-before-reply-is-dropped", |text| play_with(text, dropped_inquire)),
     ("reply-clears-failed", |text| play_with(text, reply_clears_failed)),
     ("any-inquire-counts", |text| play_with(text, any_inquire)),
     ("former-head-is-not-told", |text| play_with(text, former_head_not_told)),
+    ("fail-carries-the-arbiters-clock", |text| play_with(text, arbiters_clock)),
+    ("fail-carries-the-receivers-clock", |text| play_with(text, receivers_clock)),
+    ("former-head-gets-the-new-heads-number", |text| play_with(text, new_heads_number)),
+    ("any-fail-counts", |text| play_with(text, any_fail)),
+    ("earlier-rule", |text| play_by(Version::Earlier, text)),
     ("full-list-is-one-too-short", |text| play_with(text, short_list)),
     ("spent-one-too-soon", |text| play_with(text, spent_too_soon)),
     ("nine-before-seven", |text| play_with(text, nine_before_seven)),
@@ -34,8 +40,13 @@ pub fn play_with_fault(name: &str, text: &[u8]) -> Option<Vec<u8>> {
     Some(player(text))
 }
 
+/// Plays a text with another step.
+fn play_with(text: &[u8], step: fn(&mut Rig, Event) -> Result<(), Refusal>) -> Vec<u8> {
+    crate::model::play_with(Version::Present, text, step)
+}
+
 /// The message an event would deliver, with its place.
-fn delivered(rig: &Rig, event: Event) -> Option<(usize, Message)> {
+pub(crate) fn delivered(rig: &Rig, event: Event) -> Option<(usize, Message)> {
     let Event::Move(from, to) = event else {
         return None;
     };
@@ -93,6 +104,45 @@ fn former_head_not_told(rig: &mut Rig, event: Event) -> Result<(), Refusal> {
     }
     rig.commit(change);
     Ok(())
+}
+
+/// Gives the fails of an event other numbers.
+fn with_numbers(
+    rig: &mut Rig,
+    event: Event,
+    number: impl Fn(&Rig, &Change, Site) -> Option<u32>,
+) -> Result<(), Refusal> {
+    let mut change = rig.plan(event)?;
+    for place in 0..change.sent.len() {
+        let Message { to, body, .. } = change.sent[place];
+        if let (Body::Fail { .. }, Some(number)) = (body, number(rig, &change, to)) {
+            change.sent[place].body = Body::Fail { seq: Some(number) };
+        }
+    }
+    rig.commit(change);
+    Ok(())
+}
+
+fn arbiters_clock(rig: &mut Rig, event: Event) -> Result<(), Refusal> {
+    with_numbers(rig, event, |_, change, _| Some(change.desk.clock))
+}
+
+fn receivers_clock(rig: &mut Rig, event: Event) -> Result<(), Refusal> {
+    with_numbers(rig, event, |rig, _, to| Some(rig.desk(to).clock))
+}
+
+fn new_heads_number(rig: &mut Rig, event: Event) -> Result<(), Refusal> {
+    with_numbers(rig, event, |_, change, _| match change.sent[..] {
+        [_, _, _] => change.desk.arbiter.head().map(|head| head.seq),
+        _ => None,
+    })
+}
+
+fn any_fail(rig: &mut Rig, event: Event) -> Result<(), Refusal> {
+    if let Some((place, Message { body: Body::Fail { .. }, .. })) = delivered(rig, event) {
+        rig.under_way_mut()[place].body = Body::Fail { seq: None };
+    }
+    rig.apply(event)
 }
 
 fn dropped_inquire(rig: &mut Rig, event: Event) -> Result<(), Refusal> {

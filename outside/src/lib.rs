@@ -1,4 +1,4 @@
-//! A second opinion on document 01 ("The show key") and requests 2.1 and 2.2.
+//! A second opinion on document 01 ("The show key") and requests 2.1 to 2.3.
 //!
 //! * [`model`] is the paper itself, written from the paper alone: setup, the
 //!   families of request sets, one event, and the player of texts.

@@ -8,7 +8,7 @@ use std::time::{Duration, SystemTime};
 
 use outside::compare::{compare, Plan};
 use outside::measure::measure;
-use outside::model::{play, Family};
+use outside::model::{play_by, Family, Version};
 use outside::options::Options;
 use outside::plan_compare::compare_calls;
 use outside::random::Random;
@@ -19,8 +19,8 @@ use outside::subject::Subject;
 
 const USAGE: &str = "\
 outside compare PLAYER_BINARY [--seed S] [--texts N] [--seconds T] [--jobs J]
-                              [--no-spent] [--timeout T] [--shrink-seconds T] [--folder F]
-outside play FILE|-
+                              [--no-spent] [--timeout T] [--shrink-seconds T] [--folder F] [--earlier]
+outside play FILE|- [--earlier]
 outside plan PROGRAM [--script] [--timeout T]
 outside state PROGRAM [--script] [--seed S] [--rounds R] [--jobs J] [--no-spent]
                       [--no-misshapen] [--timeout T] [--folder F]
@@ -60,11 +60,21 @@ fn seed_of_the_moment() -> u64 {
     since.map_or(1, |since| since.as_nanos() as u64) % 1_000_000_000
 }
 
+/// With `--earlier`, the rules are those of request 2.2.
+fn version(options: &mut Options) -> Version {
+    if options.flag("--earlier") {
+        Version::Earlier
+    } else {
+        Version::Present
+    }
+}
+
 fn compare_command(mut options: Options) -> Result<bool, String> {
     let seed = options.value("--seed")?.unwrap_or_else(seed_of_the_moment);
     let texts = options.value("--texts")?;
     let time = options.value("--seconds")?.map(seconds);
     let plan = Plan {
+        version: version(&mut options),
         seed,
         texts: match (texts, time) {
             (None, None) => Some(5_000),
@@ -83,6 +93,7 @@ fn compare_command(mut options: Options) -> Result<bool, String> {
 }
 
 fn play_command(mut options: Options) -> Result<bool, String> {
+    let version = version(&mut options);
     let name = options.word("a file, or - for standard input")?;
     options.finish()?;
     let mut text = Vec::new();
@@ -92,7 +103,7 @@ fn play_command(mut options: Options) -> Result<bool, String> {
         fs::read(&name).map(|bytes| text = bytes)
     };
     read.map_err(|error| format!("{name}: {error}"))?;
-    written(io::stdout().write_all(&play(&text)))
+    written(io::stdout().write_all(&play_by(version, &text)))
 }
 
 fn plan_command(mut options: Options) -> Result<bool, String> {

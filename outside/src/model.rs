@@ -3,6 +3,9 @@
 //! The player's text cannot make a misshapen state, so [`Rig::apply`] leaves
 //! out the check for one (code 10). A saved text can: [`Rig::apply_judged`] has
 //! the check.
+//!
+//! It is the paper as request 2.3 amends it. A rig may be told to go by the
+//! version before instead: see [`Version`].
 
 pub mod desk;
 pub mod families;
@@ -18,8 +21,18 @@ pub use desk::{Arbiter, Claim, Desk, Mode, Tie};
 pub use families::Family;
 pub use grammar::Event;
 pub use message::{Body, Message};
-pub use player::{go_on, go_on_with, last_state, play, play_with, Stop};
+pub use player::{go_on, go_on_with, last_state, last_state_by, play, play_by, play_with, Stop};
 pub use rig::{Change, Rig};
+
+/// By which rules a rig goes. They differ in the fails alone.
+#[derive(Clone, Copy, Debug, PartialEq, Eq)]
+pub enum Version {
+    /// Up to request 2.2: no fail has a number, and each one counts.
+    Earlier,
+    /// From request 2.3 on: a fail sent has the number of the ask it is about,
+    /// and counts for that ask alone. One without a number still counts.
+    Present,
+}
 
 /// The number of a site, from 1. Texts may also name sites that do not exist.
 pub type Site = u16;

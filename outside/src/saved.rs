@@ -1,8 +1,9 @@
-//! The saved text of a state, written and read (request 2.2, docs/TEXT.md).
+//! The saved text of a state, written and read (requests 2.2 and 2.3,
+//! docs/TEXT.md).
 
 use std::fmt::Write;
 
-use crate::model::{Arbiter, Body, Claim, Desk, Message, Mode, Rig, Site, Tie, MOST_SITES};
+use crate::model::{Arbiter, Body, Claim, Desk, Message, Mode, Rig, Site, Tie, Version, MOST_SITES};
 use crate::rigs;
 
 /// The text of a well-shaped state.
@@ -62,7 +63,7 @@ fn message_numbers(message: &Message) -> Vec<u32> {
         Body::Reply { arbiter, grant } => (2, vec![u32::from(arbiter), grant]),
         Body::Release { heir, grant } => (3, vec![heir.map_or(0, u32::from), grant]),
         Body::Inquire { grant } => (4, vec![grant]),
-        Body::Fail => (5, vec![]),
+        Body::Fail { seq } => (5, seq.into_iter().collect()),
         Body::Yield { grant } => (6, vec![grant]),
         Body::Transfer { heir, grant } => (7, vec![u32::from(heir), grant]),
     };
@@ -71,7 +72,12 @@ fn message_numbers(message: &Message) -> Vec<u32> {
 
 /// The state whose text this is; nothing if it is that of none.
 pub fn read_text(text: &[u8]) -> Option<Rig> {
-    read_form(text).filter(|rig| !rig.is_misshapen())
+    read_text_by(Version::Present, text)
+}
+
+/// The same in a version. That of request 2.2 knows no numbered fail.
+pub fn read_text_by(version: Version, text: &[u8]) -> Option<Rig> {
+    read_form(text).map(|rig| rig.by(version)).filter(|rig| !rig.is_misshapen())
 }
 
 /// The same, but only the form is judged: the keys and their order, how
@@ -196,7 +202,8 @@ fn message(numbers: &[u32]) -> Option<Message> {
         (3, &[0, grant]) => Body::Release { heir: None, grant },
         (3, &[about, grant]) => Body::Release { heir: Some(site_number(about)?), grant },
         (4, &[grant]) => Body::Inquire { grant },
-        (5, &[]) => Body::Fail,
+        (5, &[]) => Body::Fail { seq: None },
+        (5, &[seq]) if seq != 0 => Body::Fail { seq: Some(seq) },
         (6, &[grant]) => Body::Yield { grant },
         (7, &[about, grant]) => Body::Transfer { heir: site_number(about)?, grant },
         _ => return None,
@@ -207,7 +214,7 @@ fn message(numbers: &[u32]) -> Option<Message> {
 #[cfg(test)]
 pub(crate) mod tests {
     use super::*;
-    use crate::model::{last_state, Family};
+    use crate::model::{last_state, last_state_by, Family};
     use crate::random::Random;
     use crate::schedule::{self, Schedule};
     use crate::strange;
@@ -219,7 +226,7 @@ pub(crate) mod tests {
         clock=1\nmode=1,1,0\nheld=0\nheir=0\ninquired=0\n\
         grant=1\nholder=1,1\nqueued=0,1\n\
         grant=0\nholder=0\nqueued=\n\
-        message=5,1,2\nmessage=2,1,2,1,2\nmessage=3,1,1,2,1\n";
+        message=5,1,2,1\nmessage=2,1,2,1,2\nmessage=3,1,1,2,1\n";
 
     fn round_trip(rig: &Rig) {
         let text = text_of(rig);
@@ -239,6 +246,29 @@ pub(crate) mod tests {
         if let Ok(document) = std::fs::read_to_string(document) {
             assert!(document.contains(&format!("\n```\n{EXAMPLE_SAVED}```\n")));
         }
+    }
+
+    /// Every text of the version before is read, is written back as it is, and
+    /// tells the state it was the text of. That version reads no others.
+    #[test]
+    fn texts_of_the_version_before() {
+        let earlier = EXAMPLE_SAVED.replace("message=5,1,2,1", "message=5,1,2");
+        let first: String = EXAMPLE.split_inclusive('\n').take(10).collect();
+        assert_eq!(text_of(&last_state_by(Version::Earlier, first.as_bytes()).unwrap()), earlier);
+        assert_eq!(read_text_by(Version::Earlier, EXAMPLE_SAVED.as_bytes()), None);
+        let mut fails = 0;
+        for seed in 0..200 {
+            let mut random = Random::new(seed);
+            let lists = rigs::meeting(&mut random);
+            let events = random.below(300);
+            let text = schedule::text(&lists, Schedule::new(random), events);
+            let rig = last_state_by(Version::Earlier, &text).unwrap();
+            let text = text_of(&rig);
+            fails += text.matches("message=5,").count();
+            assert_eq!(read_text_by(Version::Earlier, text.as_bytes()).as_ref(), Some(&rig));
+            round_trip(&rig.by(Version::Present));
+        }
+        assert!(fails > 100, "{fails}");
     }
 
     #[test]
@@ -350,17 +380,23 @@ pub(crate) mod tests {
             ("queued=0,1\n", "queued=0\n"),
             ("queued=0,1\n", "queued=0,1,0\n"),
             ("queued=\n", "queued=0\n"),
-            ("message=5,1,2\n", "message=5,1,2,0\n"),
-            ("message=5,1,2\n", "message=5,2,1\n"),
-            ("message=5,1,2\n", "message=0,1,2\n"),
-            ("message=5,1,2\n", "message=8,1,2,1\n"),
-            ("message=5,1,2\n", "message=5,1\n"),
-            ("message=5,1,2\n", "message=\n"),
-            ("message=5,1,2\n", "message=4,1,2,0\n"),
-            ("message=5,1,2\n", "message=7,1,2,0,1\n"),
-            ("message=5,1,2\n", "message=7,1,2,3,1\n"),
-            ("message=5,1,2\n", "message=1,1,2,1\n"),
-            ("message=5,1,2\n", "message=6,2,1\n"),
+            ("message=5,1,2,1\n", "message=5,1,2,0\n"),
+            ("message=5,1,2,1\n", "message=5,1,2,01\n"),
+            ("message=5,1,2,1\n", "message=5,1,2,\n"),
+            ("message=5,1,2,1\n", "message=5,1,2,1,0\n"),
+            ("message=5,1,2,1\n", "message=5,1,2,0,1\n"),
+            ("message=5,1,2,1\n", "message=5,1,2,2000001\n"),
+            ("message=5,1,2,1\n", "message=5,2,1\n"),
+            ("message=5,1,2,1\n", "message=5,2,1,1\n"),
+            ("message=5,1,2,1\n", "message=0,1,2\n"),
+            ("message=5,1,2,1\n", "message=8,1,2,1\n"),
+            ("message=5,1,2,1\n", "message=5,1\n"),
+            ("message=5,1,2,1\n", "message=\n"),
+            ("message=5,1,2,1\n", "message=4,1,2,0\n"),
+            ("message=5,1,2,1\n", "message=7,1,2,0,1\n"),
+            ("message=5,1,2,1\n", "message=7,1,2,3,1\n"),
+            ("message=5,1,2,1\n", "message=1,1,2,1\n"),
+            ("message=5,1,2,1\n", "message=6,2,1\n"),
             ("message=2,1,2,1,2\n", "message=2,1,2,2,2\n"),
             ("message=2,1,2,1,2\n", "message=2,3,2,1,2\n"),
             ("message=2,1,2,1,2\n", "message=2,1,2,0,2\n"),
@@ -379,8 +415,11 @@ pub(crate) mod tests {
             ("holder=1,1\n", "holder=0\n"),
             ("grant=1\n", "grant=0\n"),
             ("queued=0,1\n", "queued=2000000,0\n"),
-            ("message=5,1,2\n", ""),
-            ("message=5,1,2\n", "message=4,1,2,2000000\n"),
+            ("message=5,1,2,1\n", ""),
+            ("message=5,1,2,1\n", "message=5,1,2\n"),
+            ("message=5,1,2,1\n", "message=5,1,2,2\n"),
+            ("message=5,1,2,1\n", "message=5,1,2,2000000\n"),
+            ("message=5,1,2,1\n", "message=4,1,2,2000000\n"),
             ("message=2,1,2,1,2\n", "message=2,2,2,1,2\n"),
             ("message=3,1,1,2,1\n", "message=3,1,1,0,1\n"),
         ] {

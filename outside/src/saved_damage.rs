@@ -176,7 +176,7 @@ fn other_line(random: &mut Random, text: &[u8]) -> Vec<u8> {
                 (_, 0) => format!("message={},{from},{to},{}", some(9), some(4)),
                 (_, 1) => format!("message={kind},{from},{to},{},{}", some(n), some(4)),
                 (1 | 4 | 6, _) => format!("message={kind},{from},{to},{}", some(4)),
-                (5, 2 | 3) => format!("message=5,{from},{to},{}", some(1)),
+                (5, 2..=6) => format!("message=5,{from},{to},{}", some(4)),
                 (5, _) => format!("message=5,{from},{to}"),
                 _ => format!("message={kind},{from},{to},{},{}", some(n + 1), some(4)),
             }
@@ -219,7 +219,7 @@ fn behind(random: &mut Random, text: &[u8]) -> Vec<u8> {
         2 => vec![0; random.between(1, 5_000)],
         3 => vec![b'\n'; random.between(1, 5_000)],
         4 => vec![random.byte()],
-        5 => b"message=5,1,1\n".to_vec(),
+        5 => random.pick(&["message=5,1,1\n", "message=5,1,1,1\n", "message=5,1,1,0\n"]).into(),
         6 => b"message=1,1,1,1\n".to_vec(),
         7 => b"message=2,1,1,1,1\nmessage=6,1,1,1\n".to_vec(),
         8 => b"message=5,1,1\n".repeat(random.pick(&[1, 900, 1_022, 1_023, 1_024, 1_025])),

@@ -33,6 +33,8 @@ enum Choice {
     SlowFrom(u64),
     /// What is sent to these sites is left lying.
     SlowTo(u64),
+    /// A channel is left lying while its next message is a fail.
+    SlowFails,
     /// One in so many channels is left lying; the salt says which.
     SlowChannels {
         /// One in so many.
@@ -43,12 +45,16 @@ enum Choice {
 }
 
 impl Choice {
-    fn leaves_lying(self, message: &Message) -> bool {
+    fn leaves_lying(self, rig: &Rig, message: &Message) -> bool {
         let Message { from, to, .. } = *message;
         match self {
             Choice::Any | Choice::Oldest | Choice::Newest => false,
             Choice::SlowFrom(sites) => sites >> from & 1 == 1,
             Choice::SlowTo(sites) => sites >> to & 1 == 1,
+            Choice::SlowFails => {
+                let next = rig.first(from, to).map(|place| rig.under_way()[place].body);
+                matches!(next, Some(Body::Fail { .. }))
+            }
             Choice::SlowChannels { one_in, salt } => {
                 let channel = u64::from(from) << 16 | u64::from(to);
                 Random::for_place(salt, channel).once_in(one_in)
@@ -66,6 +72,8 @@ pub struct Schedule {
     careless: usize,
     /// How long moods may last.
     lengths: &'static [usize],
+    /// Whether fails are left lying every other time.
+    slow_fails: bool,
     /// Whether and how the list of messages is to be filled.
     swelling: Option<Swelling>,
 }
@@ -90,7 +98,13 @@ impl Schedule {
     /// A schedule for a long, busy run.
     pub fn busy(random: Random) -> Schedule {
         let mood = Mood { choice: Choice::Any, asks: 90, stay: 3, left: 40 };
-        Schedule { random, mood, careless: 2, lengths: &[12, 50, 400, 3_000], swelling: None }
+        let lengths = &[12, 50, 400, 3_000];
+        Schedule { random, mood, careless: 2, lengths, slow_fails: false, swelling: None }
+    }
+
+    /// A schedule in which old fails arrive: those for an ask before the last.
+    pub fn slow_fails(random: Random) -> Schedule {
+        Schedule { lengths: &[12, 50], slow_fails: true, ..Schedule::busy(random) }
     }
 
     /// A schedule that fills the list of messages if the rig can: full sets of
@@ -120,7 +134,8 @@ impl Schedule {
         let few = 1 << random.between(1, 31);
         let many = random.bits();
         let longest = random.pick(self.lengths);
-        let choice = match random.below(12) {
+        let choice = match random.below(13) {
+            _ if self.slow_fails && random.once_in(2) => Choice::SlowFails,
             0..=1 => Choice::Any,
             2 => Choice::Oldest,
             3 => Choice::Newest,
@@ -128,6 +143,7 @@ impl Schedule {
             5 => Choice::SlowFrom(many),
             6 => Choice::SlowTo(few),
             7 => Choice::SlowTo(many),
+            8 => Choice::SlowFails,
             _ => Choice::SlowChannels { one_in: random.pick(&[2, 3, 5, 10]), salt: many },
         };
         Mood {
@@ -181,13 +197,13 @@ impl Schedule {
             _ => self.random.pick(list),
         };
         for _ in 0..10 {
-            if !choice.leaves_lying(&message) {
+            if !choice.leaves_lying(rig, &message) {
                 break;
             }
             message = self.random.pick(list);
         }
         let event = Event::Move(message.from, message.to);
-        Some((event, choice.leaves_lying(&message)))
+        Some((event, choice.leaves_lying(rig, &message)))
     }
 
     /// Near the limit a sensible event; below it the one that lengthens the
@@ -286,11 +302,11 @@ pub fn text(lists: &[Vec<Site>], schedule: Schedule, events: usize) -> Vec<u8> {
 mod tests {
     use super::*;
     use crate::census::{rules, Census};
-    use crate::model::{play_with, Family};
+    use crate::model::{play_with, Family, Version};
 
     fn census(text: &[u8]) -> Census {
         let mut census = Census::default();
-        play_with(text, |rig, event| census.apply(rig, event));
+        play_with(Version::Present, text, |rig, event| census.apply(rig, event));
         census
     }
 
@@ -300,7 +316,7 @@ mod tests {
         let text = text(&lists, Schedule::busy(Random::new(1)), 100_000);
         let census = census(&text);
         // Rare on so large a rig; the small rigs below show them.
-        let rare = ["inquire: other number held", "fail: not waiting"];
+        let rare = ["inquire: other number held", "fail: not waiting", "fail: about another ask"];
         let common = rules().filter(|rule| !rare.contains(rule));
         assert_eq!(census.never_seen(common), Vec::<&str>::new(), "{census}");
     }

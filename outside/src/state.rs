@@ -1,11 +1,11 @@
-//! The program `state` of request 2.2: saves a run and goes on with a saved
-//! one.
+//! The program `state` of request 2.2, as request 2.3 leaves it: saves a run
+//! and goes on with a saved one.
 
 use std::fmt::Display;
 
-use crate::model::{go_on, last_state, Refusal, Rig};
+use crate::model::{go_on, last_state_by, Refusal, Rig, Version};
 use crate::plan::Printed;
-use crate::saved::{read_text, text_of};
+use crate::saved::{read_text_by, text_of};
 
 /// How `state` is used.
 pub const USAGE: &str = "usage: ./state save [SAVED] | play SAVED\n";
@@ -50,18 +50,23 @@ pub fn plain(text: &str) -> Word {
 
 /// What `state` answers.
 pub fn answer(call: &Call) -> Answer {
+    answer_by(Version::Present, call)
+}
+
+/// What that of a version answers.
+pub fn answer_by(version: Version, call: &Call) -> Answer {
     match how(call) {
         How::Usage => Answer::Usage,
         How::Unreadable => Answer::Unreadable,
-        How::Save(None) => match last_state(&call.input) {
+        How::Save(None) => match last_state_by(version, &call.input) {
             Ok(rig) => Answer::Text(text_of(&rig)),
             Err(stop) => stopped(stop),
         },
-        How::Save(Some(saved)) => match read_text(saved) {
+        How::Save(Some(saved)) => match read_text_by(version, saved) {
             Some(rig) => save_on(rig, &call.input),
             None => no_saved_text(),
         },
-        How::Play(saved) => match read_text(saved) {
+        How::Play(saved) => match read_text_by(version, saved) {
             Some(rig) => play_on(rig, &call.input),
             None => no_saved_text(),
         },

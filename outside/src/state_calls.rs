@@ -2,7 +2,7 @@
 
 use std::collections::HashSet;
 
-use crate::model::{last_state, play, Event, Family, Rig, MOST_SITES};
+use crate::model::{last_state, play, Event, Family, Rig, Version, MOST_SITES};
 use crate::random::Random;
 use crate::rigs::{self, Lists};
 use crate::saved::{read_text, text_of};
@@ -10,7 +10,7 @@ use crate::saved_damage::damage_saved;
 use crate::schedule::{self, Schedule};
 use crate::state::{answer, plain, Answer, Call, Word};
 use crate::strange;
-use crate::texts::{self, EXAMPLE};
+use crate::texts::{self, EXAMPLE, OLD_FAIL};
 
 /// One call with what is expected of it.
 #[derive(Clone, Debug)]
@@ -66,6 +66,7 @@ fn odd_lists() -> Vec<Lists> {
 /// The calls that are the same in every comparison, each once.
 pub fn fixed() -> Vec<Trial> {
     let mut all = Vec::new();
+    old_fail(&mut all);
     all.extend(texts::fixed().iter().map(|text| save("fixed text", &text.bytes)));
     fresh_states(&mut all);
     wrong_words(&mut all);
@@ -229,7 +230,7 @@ fn damaged_example(all: &mut Vec<Trial>, saved: &[u8], rest: &[u8]) {
         let zeros = ["0", "00"].map(|zeros| [zeros.as_bytes(), old].concat());
         let others = [
             "", "0", "1", "2", "3", "4", "7", "8", "31", "32", "999999", "1000000", "1000001", "2000000",
-            "2000001", "4294967297", "18446744073709551617", "1,0", "0,1", "1,1",
+            "2000001", "4294967297", "18446744073709551617", "1,0", "0,1", "1,1", "0,0,0",
         ];
         for new in others.iter().map(|new| new.as_bytes().to_vec()).chain(zeros) {
             put([before, &new, behind].concat());
@@ -263,6 +264,24 @@ fn misshapen(all: &mut Vec<Trial>) {
     all.push(play_on("misshapen", saved, events));
 }
 
+/// A fail to a waiting site that holds an inquired permission, with every kind
+/// of number: it counts if it has none or that of the site's ask, which is 2.
+fn old_fail(all: &mut Vec<Trial>) {
+    let (before, last) = OLD_FAIL.split_at(OLD_FAIL.len() - "move=1,3\n".len());
+    let saved = text_of(&last_state(before.as_bytes()).expect("a good text"));
+    let spelled = "message=5,1,3,1\n";
+    assert!(saved.contains(spelled), "the fail that the last event delivers");
+    for number in [
+        "", ",", ",0", ",00", ",01", ",1", ",2", ",02", ",3", ",2000000", ",2000001", ",4294967298", ",0,0",
+        ",0,2",
+    ] {
+        let saved = saved.replace(spelled, &format!("message=5,1,3{number}\n"));
+        all.push(save_on("old fail", saved.as_bytes(), b""));
+        all.push(save_on("old fail", saved.as_bytes(), last.as_bytes()));
+        all.push(play_on("old fail", saved.as_bytes(), last.as_bytes()));
+    }
+}
+
 /// A run of a million accepted events, saved and gone on with.
 pub fn spent() -> Vec<Trial> {
     let text = texts::spent().bytes;
@@ -272,7 +291,7 @@ pub fn spent() -> Vec<Trial> {
 }
 
 /// So many kinds of rounds there are.
-const ROUNDS: u64 = 8;
+const ROUNDS: u64 = 9;
 
 /// The calls of one random round.
 pub fn round(seed: u64, place: u64) -> Vec<Trial> {
@@ -281,6 +300,7 @@ pub fn round(seed: u64, place: u64) -> Vec<Trial> {
         0..=2 => reached(&mut random, place),
         3 | 4 => cut_run(&mut random, place),
         5 | 6 => unreached(&mut random, place),
+        7 => earlier(&mut random, place),
         _ => other_texts(&mut random),
     }
 }
@@ -434,6 +454,33 @@ fn unreached(random: &mut Random, place: u64) -> Vec<Trial> {
     all
 }
 
+/// A run of the version before request 2.3, saved in its spelling: the text is
+/// written back as it is, gone on with, and damaged.
+fn earlier(random: &mut Random, place: u64) -> Vec<Trial> {
+    let (lists, mut schedule) = if random.once_in(2) {
+        let n = random.between(2, 5);
+        (rigs::meeting_of_size(random, n), Schedule::slow_fails(Random::new(random.bits())))
+    } else {
+        (some_lists(random, place), Schedule::new(Random::new(random.bits())))
+    };
+    let mut rig = Rig::from_lists(&lists).expect("sets that setup passes").by(Version::Earlier);
+    for _ in 0..count(random) {
+        let _ = rig.apply(schedule.next_event(&rig));
+    }
+    let saved = text_of(&rig);
+    let rig = rig.by(Version::Present);
+    let unchanged =
+        Trial { answer: Answer::Text(saved.clone()), ..save_on("earlier", saved.as_bytes(), b"") };
+    let mut all = vec![unchanged];
+    for _ in 0..2 {
+        let events = events_for(random, &rig, 100);
+        all.push(play_on("earlier", saved.as_bytes(), &events));
+        all.push(save_on("earlier", saved.as_bytes(), &events));
+    }
+    damaged(random, &rig, &mut all);
+    all
+}
+
 /// Texts that stop or do not, of every kind the comparison of players has.
 fn other_texts(random: &mut Random) -> Vec<Trial> {
     (0..8).map(|_| save("any text", &texts::random(random).bytes)).collect()
@@ -450,6 +497,16 @@ mod tests {
     fn cut_runs_are_read_alike() {
         for place in 0..300 {
             for trial in cut_run(&mut Random::for_place(2, place), place) {
+                assert_eq!(answer(&trial.call), trial.answer, "place {place}");
+            }
+        }
+    }
+
+    /// The reading writes a text of the version before back as it is.
+    #[test]
+    fn texts_of_the_version_before_are_read_alike() {
+        for place in 0..300 {
+            for trial in earlier(&mut Random::for_place(4, place), place) {
                 assert_eq!(answer(&trial.call), trial.answer, "place {place}");
             }
         }

@@ -1,18 +1,20 @@
 //! Faults of a program `state`, planted on purpose, to see that its calls tell
 //! them.
 
+use crate::faults::delivered;
 use crate::model::{
-    go_on, go_on_with, last_state, Body, Mode, Rig, LARGEST_NUMBER, LONGEST_LINE, MOST_SITES, MOST_UNDER_WAY,
+    go_on, go_on_with, last_state, Body, Event, Message, Mode, Refusal, Rig, Version, LARGEST_NUMBER,
+    LONGEST_LINE, MOST_SITES, MOST_UNDER_WAY,
 };
 use crate::plan::Printed;
 use crate::saved::{read_form, read_text, text_of};
-use crate::state::{answer, how, no_saved_text, play_on, save_on, Answer, Call, How, Word};
+use crate::state::{answer, answer_by, how, no_saved_text, play_on, save_on, Answer, Call, How, Word};
 
 /// Answers a call.
 pub type Keeper = fn(&Call) -> Printed;
 
 /// The planted faults, by the name under which they are asked for.
-pub const FAULTS: [(&str, Keeper); 36] = [
+pub const FAULTS: [(&str, Keeper); 43] = [
     // A text is read that no state gives.
     ("zeros-may-lead", |call| with_saved(call, |text| each_number(text, without_zeros))),
     ("numbers-have-32-bits", |call| with_saved(call, |text| each_number(text, |digits| wrapped(digits, 32)))),
@@ -28,7 +30,7 @@ pub const FAULTS: [(&str, Keeper); 36] = [
     ("rest-may-have-zeros", |call| {
         with_saved(call, |text| each_line(text, |line| line.replace("mode=0,0,0", "mode=0")))
     }),
-    ("fail-may-have-a-number", |call| with_saved(call, |text| each_line(text, fail_without_number))),
+    ("fail-may-have-the-number-0", |call| with_saved(call, |text| each_line(text, fail_without_zero))),
     ("clock-has-no-limit", |call| with_saved(call, |text| each_line(text, limited_clock))),
     ("one-message-more-is-read", |call| with_saved(call, without_message_1025)),
     ("shape-is-not-tested", |call| with_reader(call, read_form)),
@@ -46,6 +48,7 @@ pub const FAULTS: [(&str, Keeper); 36] = [
     ("heir-needs-a-number-held", |call| with_reader(call, |text| read_text(text).filter(heirs_are_held))),
     ("one-inside-at-most", |call| with_reader(call, |text| read_text(text).filter(one_inside))),
     ("holder-needs-a-grant", |call| with_reader(call, |text| read_text(text).filter(holders_have_grants))),
+    ("fail-needs-a-number", |call| with_reader(call, |text| read_text(text).filter(fails_are_numbered))),
     // Another state is read or written.
     ("accepted-is-not-kept", |call| {
         with_read(call, |text| each_line(text, |line| key_or(line, "accepted", "accepted=0\n")))
@@ -56,10 +59,17 @@ pub const FAULTS: [(&str, Keeper); 36] = [
     ("inquired-stands-before-heir", |call| {
         with_written(&with_file(call, heir_and_inquired), heir_and_inquired)
     }),
+    ("fail-number-is-not-kept", |call| with_read(call, |text| each_line(text, fail_in_short))),
+    ("fail-number-is-not-written", |call| with_written(call, |text| each_line(text, fail_in_short))),
     // What is played and printed.
+    ("earlier-rule", |call| answer_by(Version::Earlier, call).printed()),
+    ("fail-without-number-is-dropped", |call| with_fails(call, |seq, _| seq.or(Some(u32::MAX)))),
+    ("any-fail-counts", |call| with_fails(call, |_, own| Some(own))),
+    ("fail-with-a-later-number-counts", |call| with_fails(call, |seq, own| seq.map(|seq| seq.min(own)))),
     ("places-go-on", places_go_on),
     ("lines-count-the-head", lines_count_the_head),
-    ("misshapen-is-played-on", misshapen_is_played_on),
+    // The test for 10 left out, in events and in writing.
+    ("misshapen-is-played-on", |call| with_step(call, Rig::apply, |_| true)),
     ("sites-and-sets-are-passed-over", sites_and_sets_pass),
     ("last-event-needs-no-end", |call| with_events(call, ended)),
     ("a-stop-prints-the-text-too", stop_prints_text),
@@ -184,10 +194,22 @@ fn without_zero_bytes(text: &[u8]) -> Vec<u8> {
     text[..length].to_vec()
 }
 
-fn fail_without_number(line: &str) -> String {
-    match line.strip_suffix(",0\n") {
-        Some(rest) if rest.starts_with("message=5,") && rest.matches(',').count() == 2 => format!("{rest}\n"),
+/// The line of a fail without its number.
+fn fail_in_short(line: &str) -> String {
+    match line.rsplit_once(',') {
+        Some((rest, _)) if rest.starts_with("message=5,") && rest.matches(',').count() == 2 => {
+            format!("{rest}\n")
+        }
         _ => line.to_string(),
+    }
+}
+
+/// The same if the number is 0.
+fn fail_without_zero(line: &str) -> String {
+    if line.ends_with(",0\n") {
+        fail_in_short(line)
+    } else {
+        line.to_string()
     }
 }
 
@@ -257,6 +279,10 @@ fn heirs_are_held(rig: &Rig) -> bool {
     rig.sites().all(|site| rig.desk(site).ties.iter().all(|tie| tie.heir.is_none() || tie.held.is_some()))
 }
 
+fn fails_are_numbered(rig: &Rig) -> bool {
+    rig.under_way().iter().all(|message| message.body != Body::Fail { seq: None })
+}
+
 fn one_inside(rig: &Rig) -> bool {
     rig.sites().filter(|&site| rig.desk(site).mode == Mode::Inside).count() <= 1
 }
@@ -320,19 +346,43 @@ fn lines_count_the_head(call: &Call) -> Printed {
     printed
 }
 
-/// The test for 10 left out, in events and in writing.
-fn misshapen_is_played_on(call: &Call) -> Printed {
+/// Another step where a file is gone on with, and another judgement of what
+/// may be written.
+fn with_step(
+    call: &Call,
+    step: impl FnMut(&mut Rig, Event) -> Result<(), Refusal>,
+    writes: fn(&Rig) -> bool,
+) -> Printed {
     let (How::Play(saved) | How::Save(Some(saved))) = how(call) else { return answer(call).printed() };
     let Some(mut rig) = read_text(saved) else { return no_saved_text().printed() };
     let mut output = Vec::new();
-    let stop = go_on_with(&mut rig, &call.input, Rig::apply, &mut output).err();
+    let stop = go_on_with(&mut rig, &call.input, step, &mut output).err();
     let stop = stop.map(|stop| format!("{stop}\n"));
     match (how(call), stop) {
         (How::Play(_), stop) => Answer::Lines(ascii(output) + &stop.unwrap_or_default()),
         (_, Some(stop)) => Answer::Stop(stop),
-        (_, None) => Answer::Text(text_of(&rig)),
+        (_, None) if writes(&rig) => Answer::Text(text_of(&rig)),
+        (_, None) => Answer::Stop("stop=10\n".to_string()),
     }
     .printed()
+}
+
+/// A fail to a waiting site taken for one with another number, told from its
+/// own and from that of the site.
+fn with_fails(call: &Call, number: fn(Option<u32>, u32) -> Option<u32>) -> Printed {
+    let step = |rig: &mut Rig, event| {
+        let mut changed = rig.clone();
+        if let Some((place, Message { to, body: Body::Fail { seq }, .. })) = delivered(rig, event) {
+            if let Mode::Waiting { seq: own, .. } = rig.desk(to).mode {
+                changed.under_way_mut()[place].body = Body::Fail { seq: number(seq, own) };
+            }
+        }
+        if rig.is_misshapen() {
+            return Err(Refusal::Misshapen);
+        }
+        changed.apply(event).map(|()| *rig = changed)
+    };
+    with_step(call, step, |rig| !rig.is_misshapen())
 }
 
 /// Lines `sites=` and `set=` left out of the events.

@@ -158,7 +158,13 @@ impl Maker<'_> {
                 (site, arbiter, Body::Release { heir, grant })
             }
             3 => (arbiter, site, Body::Inquire { grant }),
-            4 => (arbiter, site, Body::Fail),
+            4 => {
+                let seq = match desks[usize::from(site) - 1].mode {
+                    Mode::Waiting { seq, .. } if self.random.once_in(2) => Some(self.near(seq)),
+                    _ => self.perhaps(50),
+                };
+                (arbiter, site, Body::Fail { seq })
+            }
             5 => (site, arbiter, Body::Yield { grant }),
             _ => (arbiter, site, Body::Transfer { heir, grant }),
         };

@@ -31,6 +31,11 @@ pub fn fixed() -> Vec<Text> {
         put(&EXAMPLE.as_bytes()[..cut]);
     }
     put(OLD_INQUIRE.as_bytes());
+    put(OLD_FAIL.as_bytes());
+    put(OLD_FAIL_OF_TWO.as_bytes());
+    for (_, text) in NUMBERED_FAILS {
+        put(text.as_bytes());
+    }
     // The first line.
     for number in [
         "", "0", "00", "01", "1", "2", "30", "31", "32", "33", "64", "99", "100", "255", "256", "257", "512",
@@ -135,10 +140,46 @@ const OLD_INQUIRE: &str = "sites=3\nset=1\nset=1,2\nset=1,3\n\
     ask=2\nmove=2,1\nmove=1,3\nmove=3,3\nmove=3,3\nmove=1,3\nleave=3\nmove=3,2\n\
     move=1,2\nmove=1,2\nmove=1,2\nmove=3,1\nmove=3,3\nmove=2,2\nmove=2,2\nleave=2\nmove=2,1\nmove=2,2\n";
 
+/// A run in which a fail for an earlier ask reaches a site that has asked again
+/// and holds an inquired permission (request 2.3): with its last line the
+/// version before gives the permission back. It has the fewest events with
+/// which the lines of the versions can differ.
+pub const OLD_FAIL: &str = "sites=3\nset=1,2\nset=1\nset=1,2\n\
+    ask=2\nask=3\nmove=2,1\nmove=1,2\nmove=3,1\nmove=1,2\nleave=2\nmove=2,3\nmove=3,2\nmove=2,3\n\
+    leave=3\nask=3\nmove=3,2\nmove=3,2\nmove=2,3\nask=1\nmove=1,2\nmove=2,3\nmove=2,3\nmove=1,3\n";
+
+/// The same with two sites and one event more. The fail comes first, then an
+/// inquire, which the version before answers by giving the permission back.
+pub const OLD_FAIL_OF_TWO: &str = "sites=2\nset=2\nset=1,2\n\
+    ask=1\nmove=1,2\nmove=2,1\nask=2\nmove=2,1\nmove=1,2\nmove=2,2\nmove=2,1\nleave=1\nmove=1,2\n\
+    leave=2\nask=2\nmove=2,2\nmove=2,2\nmove=2,2\nmove=2,2\nmove=1,2\nask=1\nmove=1,2\nmove=2,2\n\
+    move=2,2\n";
+
+/// Runs in which a fail counts, each with the planted fault by which the fail
+/// would have another number and do nothing.
+const NUMBERED_FAILS: [(&str, &str); 3] = [
+    (
+        "former-head-gets-the-new-heads-number",
+        "sites=3\nset=1,2\nset=1,2,3\nset=1,2\nask=2\nmove=2,3\nask=3\nmove=3,1\nask=1\nmove=1,3\n\
+         move=2,1\nmove=1,2\nmove=3,2\nmove=3,2\nmove=1,3\nmove=2,2\nmove=1,3\nmove=2,3\n",
+    ),
+    (
+        "fail-carries-the-arbiters-clock",
+        "sites=3\nset=1,2\nset=1,2\nset=1,2\nask=3\nask=1\nmove=1,2\nask=2\nmove=3,2\nmove=3,1\n\
+         move=1,1\nmove=1,3\nmove=1,3\nmove=2,3\nmove=1,3\n",
+    ),
+    (
+        "fail-carries-the-receivers-clock",
+        "sites=3\nset=3\nset=1,3\nset=1,3\nask=3\nask=2\nmove=3,1\nmove=1,3\nmove=2,3\nask=1\n\
+         move=1,3\nmove=2,1\nmove=1,3\nmove=1,3\nmove=3,3\nmove=3,3\n",
+    ),
+];
+
 /// A random text.
 pub fn random(random: &mut Random) -> Text {
     let (kind, bytes) = match random.below(100) {
-        0..=37 => ("valid", valid(random)),
+        0..=34 => ("valid", valid(random)),
+        35..=37 => ("slow fails", slow_fails(random)),
         38 => ("swelling", swelling(random)),
         39..=40 => ("blind", blind(random)),
         41..=48 => ("perhaps missing", perhaps_missing(random)),
@@ -188,6 +229,14 @@ fn swelling(random: &mut Random) -> Vec<u8> {
     };
     let count = random.between(1_500, 3_000);
     schedule::text(&lists, Schedule::swelling(Random::new(random.bits())), count)
+}
+
+/// A valid text for a few sites, in which fails are left lying.
+fn slow_fails(random: &mut Random) -> Vec<u8> {
+    let n = random.between(2, 5);
+    let lists = rigs::meeting_of_size(random, n);
+    let count = random.between(200, 3_000);
+    schedule::text(&lists, Schedule::slow_fails(Random::new(random.bits())), count)
 }
 
 /// Good sets, then events made without a look at the state.
@@ -318,7 +367,7 @@ fn damaged(random: &mut Random) -> Vec<u8> {
 #[cfg(test)]
 mod tests {
     use super::*;
-    use crate::model::{play, play_with};
+    use crate::model::{play, play_by, play_with, Version};
 
     fn codes(output: &str, key: &str) -> BTreeSet<u32> {
         output
@@ -345,11 +394,37 @@ mod tests {
     #[test]
     fn an_old_inquire_is_met() {
         let mut census = crate::census::Census::default();
-        let output = play_with(OLD_INQUIRE.as_bytes(), |rig, event| census.apply(rig, event));
+        let output =
+            play_with(Version::Present, OLD_INQUIRE.as_bytes(), |rig, event| census.apply(rig, event));
         let output = String::from_utf8(output).unwrap();
         assert_eq!(output.matches(" code=0 ").count(), output.lines().count());
         assert!(output.ends_with(" inside=0 waiting=0 flying=0\n"));
         assert_eq!(census.never_seen(["inquire: other number held"]), Vec::<&str>::new());
+    }
+
+    /// The versions differ in the last line alone, by the yield.
+    #[test]
+    fn an_old_fail_is_met() {
+        for (text, flying) in [(OLD_FAIL, [4, 5]), (OLD_FAIL_OF_TWO, [2, 3])] {
+            let mut census = crate::census::Census::default();
+            play_with(Version::Present, text.as_bytes(), |rig, event| census.apply(rig, event));
+            assert_eq!(census.never_seen(["fail: about another ask"]), Vec::<&str>::new());
+            let [present, earlier] = [Version::Present, Version::Earlier]
+                .map(|version| String::from_utf8(play_by(version, text.as_bytes())).unwrap());
+            assert_eq!(present.matches(" code=0 ").count(), present.lines().count());
+            let same = present.strip_suffix(&format!("flying={}\n", flying[0])).unwrap();
+            assert_eq!(earlier, format!("{same}flying={}\n", flying[1]));
+        }
+    }
+
+    #[test]
+    fn numbers_of_fails_show() {
+        for (fault, text) in NUMBERED_FAILS {
+            let output = String::from_utf8(play(text.as_bytes())).unwrap();
+            assert_eq!(output.matches(" code=0 ").count(), output.lines().count(), "{fault}");
+            let faulty = crate::faults::play_with_fault(fault, text.as_bytes()).unwrap();
+            assert_ne!(faulty, output.into_bytes(), "{fault}");
+        }
     }
 
     #[test]

@@ -2,11 +2,13 @@
 
 use std::fs;
 use std::path::{Path, PathBuf};
+use std::process::Command;
 use std::time::Duration;
 
 use outside::compare::{compare, Plan};
-use outside::model::play;
+use outside::model::{play, Version};
 use outside::subject::{Ending, Subject};
+use outside::texts::OLD_FAIL;
 
 fn player(binary: &str) -> Subject {
     Subject::new(Path::new(binary), Duration::from_secs(60)).unwrap()
@@ -26,6 +28,7 @@ fn folder(name: &str) -> PathBuf {
 
 fn plan(folder: &Path) -> Plan {
     Plan {
+        version: Version::Present,
         seed: 3,
         texts: Some(1_400),
         time: None,
@@ -49,7 +52,13 @@ fn the_model_equals_itself() {
 
 #[test]
 fn planted_faults_are_found_and_shrunk() {
-    for fault in ["inquire-before-reply-is-dropped", "line-may-have-97-bytes", "last-line-needs-no-end"] {
+    for fault in [
+        "inquire-before-reply-is-dropped",
+        "any-fail-counts",
+        "fail-carries-the-arbiters-clock",
+        "line-may-have-97-bytes",
+        "last-line-needs-no-end",
+    ] {
         let folder = folder(fault);
         let subject = reference().with("OUTSIDE_FAULT", fault);
         assert_eq!(compare(&subject, &plan(&folder)), Ok(false), "{fault}");
@@ -61,6 +70,30 @@ fn planted_faults_are_found_and_shrunk() {
         let played = subject.play(&small, usize::MAX).unwrap();
         assert_ne!(played.output, play(&small));
     }
+}
+
+#[test]
+fn the_version_before_differs_and_can_be_asked_for() {
+    let folder = folder("earlier");
+    let earlier = reference().with("OUTSIDE_FAULT", "earlier-rule");
+    let with_earlier = Plan { version: Version::Earlier, ..plan(&folder) };
+    assert_eq!(compare(&earlier, &with_earlier), Ok(true));
+    assert_eq!(compare(&reference(), &with_earlier), Ok(false));
+    assert_eq!(compare(&earlier, &plan(&folder)), Ok(false));
+}
+
+#[test]
+fn one_text_is_played_by_both_versions() {
+    let text = folder("both").join("old_fail.txt");
+    fs::write(&text, OLD_FAIL).unwrap();
+    let last_line = |words: &[&str]| {
+        let mut command = Command::new(env!("CARGO_BIN_EXE_outside"));
+        let output = command.arg("play").args(words).arg(&text).output().unwrap();
+        assert!(output.status.success());
+        String::from_utf8(output.stdout).unwrap().lines().last().unwrap().to_string()
+    };
+    assert_eq!(last_line(&[]), "step=20 code=0 inside=0 waiting=2 flying=4");
+    assert_eq!(last_line(&["--earlier"]), "step=20 code=0 inside=0 waiting=2 flying=5");
 }
 
 #[test]

@@ -8,6 +8,7 @@ use std::time::Duration;
 
 use outside::state_compare::{compare_state, Plan};
 use outside::subject::{Ending, Subject};
+use outside::texts::OLD_FAIL;
 
 const REFERENCE: &str = env!("CARGO_BIN_EXE_reference_state");
 
@@ -80,6 +81,14 @@ fn planted_faults_are_found() {
         "zeros-may-lead",
         "shape-is-not-tested",
         "last-message-is-not-written",
+        "earlier-rule",
+        "fail-may-have-the-number-0",
+        "fail-needs-a-number",
+        "fail-number-is-not-kept",
+        "fail-number-is-not-written",
+        "fail-without-number-is-dropped",
+        "any-fail-counts",
+        "fail-with-a-later-number-counts",
         "places-go-on",
         "lines-count-the-head",
         "stop-14-says-a-line",
@@ -88,6 +97,31 @@ fn planted_faults_are_found() {
         let subject = program(REFERENCE).with("OUTSIDE_FAULT", fault);
         assert_eq!(compare_state(&subject, &plan("faults")), Ok(false), "{fault}");
     }
+}
+
+/// One run, saved before its last event by either version.
+#[test]
+fn a_text_of_the_version_before_is_gone_on_with() {
+    let file = folder("before").join("saved");
+    let name = file.to_str().unwrap().as_bytes().to_vec();
+    let called = |subject: Subject, words: &[&[u8]], input: &str| {
+        let words: Vec<Vec<u8>> = words.iter().map(|word| word.to_vec()).collect();
+        let called = subject.exchange(&words, input.as_bytes(), usize::MAX, 10_000).unwrap();
+        String::from_utf8(called.output).unwrap()
+    };
+    let present = || program(REFERENCE);
+    let earlier = || program(REFERENCE).with("OUTSIDE_FAULT", "earlier-rule");
+    let (before, last) = OLD_FAIL.split_at(OLD_FAIL.len() - "move=1,3\n".len());
+    for (by, fail, flying) in [(earlier(), "message=5,1,3\n", 5), (present(), "message=5,1,3,1\n", 4)] {
+        let saved = called(by, &[b"save"], before);
+        assert!(saved.contains(fail), "{saved}");
+        fs::write(&file, &saved).unwrap();
+        assert_eq!(called(present(), &[b"save", &name], ""), saved);
+        let line = format!("step=1 code=0 inside=0 waiting=2 flying={flying}\n");
+        assert_eq!(called(present(), &[b"play", &name], last), line);
+    }
+    // What stands in the file now is no text of the version before.
+    assert_eq!(called(earlier(), &[b"save", &name], ""), "stop=14\n");
 }
 
 #[test]

@@ -8,7 +8,7 @@ use mathlib.Core.Option.{some}
 use native.Mathlib.Omega.{arith}
 use lib.ListN.{length, take, drop, getD, set, replicate}
 use lib.Seq.{take-suc, set-at, length-take-le}
-use Rattle.basics.specs.Helpers.{tally, first, withoutFirst}
+use Rattle.basics.specs.Helpers.{tally, first, withoutFirst, All}
 use Rattle.basics.proofs.Basics.{by-bool}
 
 -- 1 for a test that passes
@@ -37,10 +37,6 @@ module _ {A : Type 0} where
   tally-snoc-yes p xs x e = let w = rw e at (tally-snoc p xs x) in omega arith
 
   -- every element
-  unfoldable pub All : (A → Type 0) → List A → Type 0
-  All P [] = Unit {0}
-  All P (x ∷ xs) = P x × All P xs
-
   pub all-snoc : (P : A → Type 0) (xs : List A) (x : A) → All P xs → P x → All P (xs ++ x ∷ [])
   unfolding All
   all-snoc P [] x a h = (h, tt)

@@ -43,3 +43,8 @@ module _ {A : Type 0} where
   unfoldable pub withoutFirst : (A → Bool) → List A → List A
   withoutFirst p [] = []
   withoutFirst p (x ∷ xs) = cond (p x) xs (x ∷ withoutFirst p xs)
+
+  -- every entry of a list has a property
+  unfoldable pub All : (A → Type 0) → List A → Type 0
+  All P [] = Unit {0}
+  All P (x ∷ xs) = P x × All P xs

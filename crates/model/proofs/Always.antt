@@ -10,8 +10,9 @@ use native.Mathlib.Numerals.{add-one}
 use lib.Dec.{eqb, leb, ltb}
 use lib.ListN.{length}
 use borrow.Author.Tests.{eqb-true, eqb-false, eq-eqb, ne-eqb, leb-true, leb-false, le-leb}
+use Rattle.basics.specs.Helpers.{All}
 use Rattle.basics.proofs.Basics.{by-bool, clash, and-split, all-of, or-second}
-use Rattle.basics.proofs.Lists.{All}
+use Rattle.basics.proofs.Lists.{all-append}
 use Rattle.rig.specs.declared.Desk.{Desk}
 use Rattle.rig.specs.declared.Event.{Event}
 use Rattle.rig.specs.declared.Message.{Message}
@@ -42,7 +43,7 @@ use Rattle.model.proofs.Setup.{Accepted, accepts, accepted-code}
 use Rattle.model.proofs.Shaped.{in-range}
 use Rattle.model.proofs.Machine.{modeNumber, sentOf, rigOf, rests-same, waits-same}
 use Rattle.model.proofs.Lawful.{systemFrom, lawful, kept-past, kept-accepted}
-use Rattle.model.proofs.Plain.{wireOf, AllPlain, both}
+use Rattle.model.proofs.Plain.{wireOf, Plain, AllPlain}
 use Rattle.model.proofs.Tables.{at-put-same}
 use Rattle.model.proofs.Reached.{stepOf, Reached, Stepped, Steps, attempted-steps, stepped}
 use Rattle.model.proofs.Codes.{never-ten, never-thirteen, run-long}
@@ -299,7 +300,7 @@ module _ (n : ℕ) (l : List ℕ) (a : Accepted n l) (past : (k : ℕ) → n < k
       rw (
         is-number (e .desk .site .clock) (omega arith),
         is-number (e .desk .arbiter .grant) (omega arith),
-        last-numbers b rest (e .sent) fits (numbers-of b (rest ++ e .sent) (both rest (e .sent) (v .rests) (v .sends)) (next .underWay)),
+        last-numbers b rest (e .sent) fits (numbers-of b (rest ++ e .sent) (all-append Plain rest (e .sent) (v .rests) (v .sends)) (next .underWay)),
       )
 
   limit-nine : (ev : Event) (e : Effect) (rest : List Message) → Stepped s ev e rest → effectCode (t .rig .accepted) e rest ≡ 9 → t .rig .accepted ≡ eventLimit

@@ -8,10 +8,9 @@ use mathlib.Core.Option.{some}
 use native.Mathlib.Omega.{arith}
 use lib.Dec.{eqb}
 use lib.ListN.{length}
-use borrow.Author.Tests.{eqb-true, eqb-false, ne-eqb, le-leb}
-use Rattle.basics.specs.Helpers.{update, first, withoutFirst}
-use Rattle.basics.proofs.Basics.{by-bool, clash, update-same}
-use Rattle.basics.proofs.Lists.{All}
+use borrow.Author.Tests.{eqb-false, ne-eqb, le-leb}
+use Rattle.basics.specs.Helpers.{first, withoutFirst, All}
+use Rattle.basics.proofs.Basics.{by-bool, update-same}
 use Rattle.rig.specs.declared.Event.{Event}
 use Rattle.rig.specs.declared.Event.the-variants.{Ask, Leave, Deliver}
 use Rattle.rig.specs.declared.Message.{Message}
@@ -19,7 +18,7 @@ use Rattle.rig.specs.Limits.{messageLimit}
 use Rattle.rig.specs.Messages.{FAIL}
 use Rattle.protocol.specs.System.{System, Lawful}
 use Rattle.protocol.specs.Rig as R
-use Rattle.protocol.proofs.Named.{MessageNamed, SentNamed, RigNamed, fresh-named, step-named, Asked}
+use Rattle.protocol.proofs.Named.{SentNamed, RigNamed, fresh-named, step-named, Asked}
 use Rattle.protocol.proofs.Later.{Over, step-clock, step-over}
 use Rattle.model.specs.Setup.{setupCode, keptSets}
 use Rattle.model.specs.State.{Tables, Stored, underWay, sizeOf, inRange, isResting, isWaiting, seqIn, siteOf, modeOf, deskOf, withDesk}
@@ -29,7 +28,7 @@ use Rattle.model.specs.Deliver.{between, delivered}
 use Rattle.model.specs.Shape.{wellShaped}
 use Rattle.model.specs.Event.{actor, sitesNamed, takenOff, attempt, attempted, effectCode, judged, eventAt, acceptedState, settled, played, tested, event}
 use Rattle.model.specs.Run.{fresh, run}
-use Rattle.model.specs.Fails.{AsksWith, Made, Each, FailsName, onlyTakenOff, OldFailsIdle}
+use Rattle.model.specs.Fails.{Made, FailsName, onlyTakenOff, OldFailsIdle}
 use Rattle.model.proofs.Tables.{put-self}
 use Rattle.model.proofs.Setup.{accepts}
 use Rattle.model.proofs.Lawful.{systemFrom, lawful, kept-past, kept-accepted}
@@ -85,8 +84,8 @@ module _ (n : ℕ) (sets : List ℕ) (list : List Message) (es : List Event) (e 
       (λ c. rw (c .1) h)
       (event-answered n l (run start done) x r)))
 
-  each-named : (ms : List Message) → All (SentNamed Has) (map sentOf ms) → Each (λ m. m .kind ≡ FAIL → Has (m .to) (m .number)) ms
-  unfolding All Each
+  each-named : (ms : List Message) → All (SentNamed Has) (map sentOf ms) → All (λ m. m .kind ≡ FAIL → Has (m .to) (m .number)) ms
+  unfolding All
   each-named [] a = tt
   each-named (m ∷ ms) a = (λ k. rw k at (a .0), each-named ms (a .1))
 

@@ -14,6 +14,7 @@ pub mod AskLeave
 pub mod Shaped
 pub mod Delivered
 pub mod DeskSizes
+pub mod Sent
 pub mod Plain
 pub mod Lost
 pub mod Reached

@@ -10,9 +10,9 @@ use lib.Dec.{eqb, leb, ltb}
 use lib.ListN.{length, replicate, length-append}
 use lib.Seq.{take-append-seam}
 use borrow.Author.Tests.{eqb-true, eqb-false, ne-eqb, le-leb, leb-false, ltb-false}
-use Rattle.basics.specs.Helpers.{tally, first, withoutFirst}
+use Rattle.basics.specs.Helpers.{tally, first, withoutFirst, All}
 use Rattle.basics.proofs.Basics.{by-bool, clash, or-none}
-use Rattle.basics.proofs.Lists.{All, tally-snoc-yes, tally-snoc-no}
+use Rattle.basics.proofs.Lists.{tally-snoc-yes, tally-snoc-no, all-append}
 use Rattle.rig.specs.declared.Desk.{Desk}
 use Rattle.rig.specs.declared.Message.{Message}
 use Rattle.rig.specs.declared.Event.{Event}
@@ -37,7 +37,7 @@ use Rattle.model.proofs.Lawful.{systemFrom}
 use Rattle.model.proofs.Shaped.{Shaped, shaped, within, ends}
 use Rattle.model.proofs.AskLeave.{ask-same, leave-same}
 use Rattle.model.proofs.Delivered.{step-delivers, first-shaped, delivered-same}
-use Rattle.model.proofs.Plain.{AllPlain, both, asked-plain, left-plain, delivered-plain}
+use Rattle.model.proofs.Plain.{Plain, AllPlain, asked-plain, left-plain, delivered-plain}
 use Rattle.model.proofs.Lost.{take-lost, sent-lost, plain-lost}
 use Rattle.model.proofs.DeskSizes.{asked-sized, left-sized, delivered-sized}
 
@@ -225,7 +225,7 @@ module _ (n : ℕ) (l : List ℕ) where
         sized = record { size = z .size; sets = z .sets; sites = z .sites; arbiters = z .arbiters; held = z .held; heir = z .heir; inquired = z .inquired; queued = z .queued };
         few = len;
         bounded = omega (arith, free .1);
-        plain = rw seam (both rest (e .sent) (h .rests) (h .sends));
+        plain = rw seam (all-append Plain rest (e .sent) (h .rests) (h .sends));
       }
 
   -- What an event answers: it is accepted, and its state is the machine's next one and reached, or refused, and nothing has changed.

@@ -8,9 +8,8 @@ use native.Mathlib.Omega.{arith}
 use lib.Dec.{eqb}
 use lib.ListN.{length, getD, replicate, getD-replicate}
 use borrow.Author.Tests.{eqb-true, eqb-false, eq-eqb, ne-eqb, not-true}
-use Rattle.basics.specs.Helpers.{count, tally}
+use Rattle.basics.specs.Helpers.{count, tally, All}
 use Rattle.basics.proofs.Basics.{by-bool, clash, and-split, any-of, any-none, count-any}
-use Rattle.basics.proofs.Lists.{All}
 use Rattle.rig.specs.declared.Message.{Message}
 use Rattle.rig.specs.declared.Event.{Event}
 use Rattle.rig.specs.declared.Mode.{Mode}

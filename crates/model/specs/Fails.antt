@@ -1,10 +1,10 @@
 -- Request 2.3, what the operators asked for: "an old fail marks the new ask" no more. Of every run from a fresh state.
 use Prim.Native.Nat.{ℕ, _+_}
 use mathlib.Core.Path.{_≡_}
-use mathlib.Core.List.{List, [], _∷_, _++_}
+use mathlib.Core.List.{List, _∷_, _++_}
 use mathlib.Core.Option.{some}
 use lib.ListN.{length}
-use Rattle.basics.specs.Helpers.{first, withoutFirst}
+use Rattle.basics.specs.Helpers.{first, withoutFirst, All}
 use Rattle.rig.specs.declared.Event.{Event}
 use Rattle.rig.specs.declared.Event.the-variants.{Ask, Deliver}
 use Rattle.rig.specs.declared.Message.{Message}
@@ -27,16 +27,11 @@ pub record Made (s : Stored) (es : List Event) (k n : ℕ) : Type 0 where
   pub whole : es ≡ earlier ++ Ask k ∷ later
   pub asks : AsksWith s earlier k n
 
--- a property of each message
-unfoldable pub Each : (Message → Type 0) → List Message → Type 0
-Each P [] = Unit {0}
-Each P (m ∷ ms) = P m × Each P ms
-
 -- "a fail carries the sequence number of the ask it is about": every fail under way has the number of an ask that its receiver has made.
 unfoldable pub FailsName : Type 0
 FailsName =
     (n : ℕ) (sets : List ℕ) (list : List Message) (es : List Event) → setupCode n sets ≡ 0 →
-    Each (λ m. m .kind ≡ FAIL → Made (fresh n sets list) es (m .to) (m .number)) (underWay (run (fresh n sets list) es))
+    All (λ m. m .kind ≡ FAIL → Made (fresh n sets list) es (m .to) (m .number)) (underWay (run (fresh n sets list) es))
 
 -- the state once the first message from a to b is off the list, and nothing else has changed but the count of events
 unfoldable pub onlyTakenOff : Stored → ℕ → ℕ → Stored

@@ -8,8 +8,9 @@ use native.Mathlib.Omega.{arith}
 use lib.Dec.{eqb, leb}
 use lib.ListN.{getD, set}
 use borrow.Author.Tests.{eqb-true, le-leb}
+use Rattle.basics.specs.Helpers.{All}
 use Rattle.basics.proofs.Basics.{by-bool}
-use Rattle.basics.proofs.Lists.{All, all-map}
+use Rattle.basics.proofs.Lists.{all-map}
 use Rattle.rig.specs.declared.Desk.{Desk}
 use Rattle.rig.specs.declared.Message.{Message}
 use Rattle.rig.specs.Limits.{siteLimit, numberLimit}
@@ -22,9 +23,9 @@ use Rattle.model.specs.Site.{failedSet, failCounts, onFail}
 use Rattle.model.specs.Deliver.{delivered}
 use Rattle.model.specs.Losses.{unnumbered, lost, lostAll}
 use Rattle.model.proofs.Heads.{head-within}
+use Rattle.model.proofs.Sent.{Sends, granted-sends, onRelease-sends, onYield-sends, reply-sends, inquire-sends, yieldedUpTo-sends, transfer-sends}
 use Rattle.model_earlier.specs.Rules as Earlier
-use Rattle.model_earlier.proofs.Lost.{Plain, plain-number, lost-plain}
-use Rattle.model_earlier.proofs.Plain.{SendsPlain, granted-plain, release-plain, yield-plain, reply-plain, inquire-plain, yields-plain, transfer-plain}
+use Rattle.model_earlier.proofs.Lost.{Numberless, others, numberless-number, lost-numberless}
 
 -- the number of a message is within the limit just where it is so once the message has lost it
 abbrev pub Fits : Message → Type 0
@@ -39,10 +40,10 @@ pub record Near (old new : Effect) : Type 0 where
   pub same : old ≡ lostEffect new
   pub fits : All Fits (new .sent)
 
-pub plain-near : (e : Effect) → SendsPlain e → Near e e
-plain-near e a = record {
-  same = rw (lost-plain (e .sent) a);
-  fits = all-map Plain Fits (e .sent) (λ m h. ap (λ (x : Message). leb (x .number) numberLimit) h) a;
+pub numberless-near : (e : Effect) → Sends Numberless e → Near e e
+numberless-near e a = record {
+  same = rw (lost-numberless (e .sent) a);
+  fits = all-map Numberless Fits (e .sent) (λ m h. ap (λ (x : Message). leb (x .number) numberLimit) h) a;
 }
 
 near-if : (b : Bool) {x y x′ y′ : Effect} → (b ≡ true → Near x x′) → (b ≡ false → Near y y′) → Near (cond b x y) (cond b x′ y′)
@@ -102,7 +103,7 @@ unfolding Earlier.onRequest onRequest clockRaised
 request-near d s k n h b =
     let u = clockRaised d n in
     near-if (eqb (holderOf u) 0)
-    (λ e. plain-near _ (granted-plain u k n))
+    (λ e. numberless-near _ (granted-sends Numberless others u k n))
     (λ e. queued-near u (record { size = s .size; queued = s .queued }) k n h b)
 
 -- A fail numbered 0
@@ -111,19 +112,19 @@ fail-near : (d : Desk) (n : ℕ) → 0 ≡ n → Near (Earlier.onFail d) (onFail
 unfolding Earlier.onFail onFail failCounts All
 fail-near d n z =
     by-bool (waits d)
-    (λ e. rw (← z, e) (plain-near _ (yields-plain (failedSet d) (d .size))))
-    (λ e. rw (← z, e) (plain-near (effect d []) tt))
+    (λ e. rw (← z, e) (numberless-near _ (yieldedUpTo-sends Numberless others (failedSet d) (d .size))))
+    (λ e. rw (← z, e) (numberless-near (effect d []) tt))
 
 -- Any message
 
-pub delivered-near : (d : Desk) (m : Message) → Bounded d → Plain m → m .from ≤ siteLimit → (m .kind ≡ REQUEST → m .number ≤ numberLimit) → Near (Earlier.delivered d m) (delivered d m)
+pub delivered-near : (d : Desk) (m : Message) → Bounded d → Numberless m → m .from ≤ siteLimit → (m .kind ≡ REQUEST → m .number ≤ numberLimit) → Near (Earlier.delivered d m) (delivered d m)
 unfolding Earlier.delivered delivered All
 delivered-near d m s p h b =
     near-if (eqb (m .kind) REQUEST) (λ e. request-near d s (m .from) (m .number) h (b (eqb-true _ _ e)))
-    (λ e. near-if (eqb (m .kind) REPLY) (λ e. plain-near _ (reply-plain d (m .about) (m .number)))
-    (λ e. near-if (eqb (m .kind) RELEASE) (λ e. plain-near _ (release-plain d (m .from) (m .about) (m .number)))
-    (λ e. near-if (eqb (m .kind) INQUIRE) (λ e. plain-near _ (inquire-plain d (m .from) (m .number)))
-    (λ e. near-if (eqb (m .kind) FAIL) (λ e. fail-near d (m .number) (plain-number m p e))
-    (λ e. near-if (eqb (m .kind) YIELD) (λ e. plain-near _ (yield-plain d (m .from) (m .number)))
-    (λ e. near-if (eqb (m .kind) TRANSFER) (λ e. plain-near _ (transfer-plain d (m .from) (m .about) (m .number)))
-    (λ e. plain-near (effect d []) tt)))))))
+    (λ e. near-if (eqb (m .kind) REPLY) (λ e. numberless-near _ (reply-sends Numberless others d (m .about) (m .number)))
+    (λ e. near-if (eqb (m .kind) RELEASE) (λ e. numberless-near _ (onRelease-sends Numberless others d (m .from) (m .about) (m .number)))
+    (λ e. near-if (eqb (m .kind) INQUIRE) (λ e. numberless-near _ (inquire-sends Numberless others d (m .from) (m .number)))
+    (λ e. near-if (eqb (m .kind) FAIL) (λ e. fail-near d (m .number) (numberless-number m p e))
+    (λ e. near-if (eqb (m .kind) YIELD) (λ e. numberless-near _ (onYield-sends Numberless others d (m .from) (m .number)))
+    (λ e. near-if (eqb (m .kind) TRANSFER) (λ e. numberless-near _ (transfer-sends Numberless others d (m .from) (m .about) (m .number)))
+    (λ e. numberless-near (effect d []) tt)))))))

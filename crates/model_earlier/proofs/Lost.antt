@@ -4,9 +4,9 @@ use mathlib.Core.Path.{_≡_, refl, ap}
 use mathlib.Core.Bool.{true}
 use mathlib.Core.List.{List, [], _∷_, _++_}
 use lib.Dec.{eqb}
-use lib.ListN.{length, take, replicate}
+use lib.ListN.{length, replicate}
+use Rattle.basics.specs.Helpers.{All}
 use Rattle.basics.proofs.Basics.{by-bool}
-use Rattle.basics.proofs.Lists.{All}
 use Rattle.rig.specs.declared.Desk.{Desk}
 use Rattle.rig.specs.declared.Message.{Message}
 use Rattle.rig.specs.Limits.{messageLimit}
@@ -14,38 +14,51 @@ use Rattle.rig.specs.Messages.{FAIL}
 use Rattle.model.specs.State.{Tables}
 use Rattle.model.specs.Event.{blankMessage, padded, acceptedState}
 use Rattle.model.proofs.Lost.{length-lost}
+use Rattle.model.proofs.Sent.{Others}
 use Rattle.model.specs.Losses.{unnumbered, lost, lostAll, withLost}
 
 -- a message that has no number to lose: another kind, or a fail numbered 0
-abbrev pub Plain : Message → Type 0
-Plain m = unnumbered m ≡ m
+abbrev pub Numberless : Message → Type 0
+Numberless m = unnumbered m ≡ m
 
 -- One message
 
-pub plain-number : (m : Message) → Plain m → eqb (m .kind) FAIL ≡ true → 0 ≡ m .number
+pub numberless-number : (m : Message) → Numberless m → eqb (m .kind) FAIL ≡ true → 0 ≡ m .number
 unfolding unnumbered
-plain-number m h e = ap (λ (x : Message). x .number) (rw e at h)
+numberless-number m h e = ap (λ (x : Message). x .number) (rw e at h)
 
-pub unnumbered-plain : (m : Message) → Plain (unnumbered m)
+pub unnumbered-numberless : (m : Message) → Numberless (unnumbered m)
 unfolding unnumbered
-unnumbered-plain m = by-bool (eqb (m .kind) FAIL) (λ e. rw (e, e)) (λ e. rw (e, e))
+unnumbered-numberless m = by-bool (eqb (m .kind) FAIL) (λ e. rw (e, e)) (λ e. rw (e, e))
+
+-- a message that is no fail has no number to lose, so that an ask, a leave and a delivery other than that of a request send nothing that has
+pub others : Others Numberless
+unfolding unnumbered
+others = record {
+  requests = λ a b n. refl;
+  replies = λ a b j n. refl;
+  releases = λ a b x n. refl;
+  inquires = λ a b n. refl;
+  yields = λ a b n. refl;
+  transfers = λ a b x n. refl;
+}
 
 -- A list
 
-pub lost-plain : (ms : List Message) → All Plain ms → lostAll ms ≡ ms
+pub lost-numberless : (ms : List Message) → All Numberless ms → lostAll ms ≡ ms
 unfolding lost All
-lost-plain [] a = refl
-lost-plain (m ∷ ms) a = rw (a .0, lost-plain ms (a .1))
+lost-numberless [] a = refl
+lost-numberless (m ∷ ms) a = rw (a .0, lost-numberless ms (a .1))
 
-pub plain-lost : (ms : List Message) → lostAll ms ≡ ms → All Plain ms
+pub numberless-lost : (ms : List Message) → lostAll ms ≡ ms → All Numberless ms
 unfolding lost All
-plain-lost [] e = tt
-plain-lost (m ∷ ms) e = (cc, plain-lost ms cc)
+numberless-lost [] e = tt
+numberless-lost (m ∷ ms) e = (cc, numberless-lost ms cc)
 
 pub lost-twice : (ms : List Message) → lostAll (lostAll ms) ≡ lostAll ms
 unfolding lost
 lost-twice [] = refl
-lost-twice (m ∷ ms) = rw (unnumbered-plain m, lost-twice ms)
+lost-twice (m ∷ ms) = rw (unnumbered-numberless m, lost-twice ms)
 
 pub lost-append : (xs ys : List Message) → lostAll (xs ++ ys) ≡ lostAll xs ++ lostAll ys
 unfolding lost

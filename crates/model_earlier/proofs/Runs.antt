@@ -17,7 +17,7 @@ use Rattle.model_earlier.proofs.Lost.{lost-twice}
 use Rattle.model_earlier.proofs.Events.{earlier-event}
 
 -- the moves from a state to another
-abbrev Moves : Stored → Stored → Type 0
+abbrev pub Moves : Stored → Stored → Type 0
 Moves s t = (moves : List Move) × (t ≡ runWithLosses s moves)
 
 module _ (s : Stored) (e : Event) (u : Unnumbered s) where
@@ -25,14 +25,14 @@ module _ (s : Stored) (e : Event) (u : Unnumbered s) where
   unfolding EarlierEvent
   next-same = ap (λ (a : Answer). a .next) (earlier-event s e u)
 
-  event-moves : Moves s (Earlier.event s e .next)
+  pub event-moves : Moves s (Earlier.event s e .next)
   unfolding withoutNumbers runWithLosses moved
   event-moves =
       by-bool (eqb (event s e .code) 0)
       (λ c. (happens e ∷ loses (λ i. true) ∷ [], rw c at next-same))
       (λ c. ([], rw c at next-same))
 
-  event-unnumbered : Unnumbered (Earlier.event s e .next)
+  pub event-unnumbered : Unnumbered (Earlier.event s e .next)
   unfolding withoutNumbers withLost
   event-unnumbered =
       rw next-same

@@ -1,15 +1,13 @@
--- What the test of a state's shape says where no fail under way has a number: it is the same in both versions, and what it says of the numbers from
--- which a fail's is taken.
+-- The test of a state's shape in both versions, and what it says of the numbers from which a fail's is taken.
 use Prim.Native.Nat.{ℕ, zero, suc, _≤_}
-use mathlib.Core.Path.{_≡_, refl}
+use mathlib.Core.Path.{_≡_, refl, sym, ap, _∙_}
 use mathlib.Core.Bool.{true}
 use mathlib.Core.List.{List, [], _∷_}
 use native.Mathlib.Omega.{arith}
 use lib.Dec.{eqb, leb}
 use borrow.Author.Tests.{eqb-true, leb-true}
-use Rattle.basics.specs.Helpers.{all}
+use Rattle.basics.specs.Helpers.{all, All}
 use Rattle.basics.proofs.Basics.{by-bool, and-split, all-at}
-use Rattle.basics.proofs.Lists.{All}
 use Rattle.rig.specs.declared.Message.{Message}
 use Rattle.rig.specs.Limits.{siteLimit, messageLimit, numberLimit, SiteNumber}
 use Rattle.rig.specs.Messages.{REQUEST, FAIL}
@@ -17,24 +15,51 @@ use Rattle.model.specs.Tables.{at, cell}
 use Rattle.model.specs.State.{Tables, Stored, underWay, sizeOf, setsOf, inRange, hasMember, queuedOf, deskOf}
 use Rattle.model.specs.Shape.{isNumber, isGiven, rigShaped, entryShaped, ownShaped, heirShaped, queuedShaped, everywhere, numberShaped, messageShaped, messagesShaped, tablesShaped, wellShaped}
 use Rattle.model.proofs.Shaped.{shaped, listed}
+use Rattle.model.specs.Losses.{unnumbered}
 use Rattle.model_earlier.specs.Rules as Earlier
-use Rattle.model_earlier.proofs.Lost.{Plain, plain-number}
+use Rattle.model_earlier.specs.Claims.{EarlierShaped}
+use Rattle.model_earlier.proofs.Lost.{Numberless, numberless-number, lost-numberless}
 use Rattle.model_earlier.proofs.Deliveries.{Bounded}
 
--- Both versions
+-- Where no fail under way has a number, the test is the same in both versions.
 
-number-same : (m : Message) → Plain m → Earlier.numberShaped m ≡ numberShaped m
+number-same : (m : Message) → Numberless m → Earlier.numberShaped m ≡ numberShaped m
 unfolding Earlier.numberShaped numberShaped isNumber
-number-same m p = by-bool (eqb (m .kind) FAIL) (λ e. rw (e, ← plain-number m p e)) (λ e. rw e)
+number-same m p = by-bool (eqb (m .kind) FAIL) (λ e. rw (e, ← numberless-number m p e)) (λ e. rw e)
 
-messages-same : (n : ℕ) (sets : List ℕ) (ms : List Message) → All Plain ms → Earlier.messagesShaped n sets ms ≡ messagesShaped n sets ms
+messages-same : (n : ℕ) (sets : List ℕ) (ms : List Message) → All Numberless ms → Earlier.messagesShaped n sets ms ≡ messagesShaped n sets ms
 unfolding Earlier.messagesShaped messagesShaped Earlier.messageShaped messageShaped All
 messages-same n sets [] a = refl
 messages-same n sets (m ∷ ms) a = rw (number-same m (a .0), messages-same n sets ms (a .1))
 
-pub shape-same : (s : Stored) → All Plain (underWay s) → Earlier.wellShaped s ≡ wellShaped s
+pub shape-same : (s : Stored) → All Numberless (underWay s) → Earlier.wellShaped s ≡ wellShaped s
 unfolding Earlier.wellShaped wellShaped
 shape-same s a = rw (messages-same (sizeOf (s .tables)) (setsOf (s .tables)) (underWay s) a)
+
+-- Where the version before lets a state pass, no fail has a number.
+
+number-numberless : (m : Message) → Earlier.numberShaped m ≡ true → Numberless m
+unfolding Earlier.numberShaped unnumbered
+number-numberless m e =
+    by-bool (eqb (m .kind) FAIL)
+    (λ f. rw f (ap (λ n. record { kind = m .kind; from = m .from; to = m .to; about = m .about; number = n }) (sym (eqb-true (m .number) 0 (rw f at e)))))
+    (λ f. rw f)
+
+messages-numberless : (n : ℕ) (sets : List ℕ) (ms : List Message) → Earlier.messagesShaped n sets ms ≡ true → All Numberless ms
+unfolding Earlier.messagesShaped Earlier.messageShaped All
+messages-numberless n sets [] e = tt
+messages-numberless n sets (m ∷ ms) e =
+    let (one, more) = and-split (Earlier.messageShaped n sets m) (Earlier.messagesShaped n sets ms) e in
+    let a = and-split (inRange n (m .from)) _ one .1 in
+    let b = and-split (inRange n (m .to)) _ a .1 in
+    (number-numberless m (and-split (Earlier.numberShaped m) _ b .0), messages-numberless n sets ms more)
+
+pub earlier-shaped : EarlierShaped
+unfolding EarlierShaped Earlier.wellShaped
+earlier-shaped s e =
+    let a = and-split (leb (s .count) messageLimit) _ e .1 in
+    let numberless = messages-numberless (sizeOf (s .tables)) (setsOf (s .tables)) (underWay s) (and-split (tablesShaped (s .tables)) _ a .1) in
+    (sym (shape-same s numberless) ∙ e, lost-numberless (underWay s) numberless)
 
 -- The numbers
 

@@ -8,6 +8,7 @@ use Rattle.rig.specs.declared.Event.{Event}
 use Rattle.rig.specs.declared.Message.{Message}
 use Rattle.model.specs.Setup.{setupCode}
 use Rattle.model.specs.State.{Stored, underWay}
+use Rattle.model.specs.Shape.{wellShaped}
 use Rattle.model.specs.Event.{Answer, answer, event}
 use Rattle.model.specs.Run.{fresh}
 use Rattle.model.specs.Losses.{lostAll, withLost, Move, runWithLosses}
@@ -16,6 +17,10 @@ use Rattle.model_earlier.specs.Rules as Earlier
 -- no fail under way has a number
 abbrev pub Unnumbered : Stored → Type 0
 Unnumbered s = lostAll (underWay s) ≡ underWay s
+
+-- A state that is well shaped for the version before is so for this one, and no fail under way has a number.
+unfoldable pub EarlierShaped : Type 0
+EarlierShaped = (s : Stored) → Earlier.wellShaped s ≡ true → (wellShaped s ≡ true) × Unnumbered s
 
 -- an answer to an event on s, once every fail has lost its number; a refused event leaves s
 unfoldable pub withoutNumbers : Stored → Answer → Answer

@@ -7,8 +7,9 @@ use mathlib.Core.List.{List}
 use native.Mathlib.Omega.{arith}
 use lib.Dec.{eqb}
 use borrow.Author.Tests.{eqb-true, eqb-false, not-true}
+use Rattle.basics.specs.Helpers.{All}
 use Rattle.basics.proofs.Basics.{by-bool, and-split}
-use Rattle.basics.proofs.Lists.{All, all-append}
+use Rattle.basics.proofs.Lists.{all-append}
 use Rattle.rig.specs.declared.Desk.{Desk}
 use Rattle.rig.specs.Limits.{numberLimit, SiteNumber}
 use Rattle.rig.specs.Messages.{reply, inquire, fail, transfer}
@@ -34,7 +35,7 @@ head-with-queued row k h old ne =
     (λ z. rw (e, z) (eqb-false _ 0 e))
     (λ z. by-bool (goesFirst row k h) (λ g. rw (e, z, g) (eqb-false _ 0 e)) (λ g. rw (e, z, g) (old (eqb-false h 0 z)))))
 
-head-queued : (row : List ℕ) (n : ℕ) → head row n ≢ 0 → at 0 row (head row n) ≢ 0
+pub head-queued : (row : List ℕ) (n : ℕ) → head row n ≢ 0 → at 0 row (head row n) ≢ 0
 unfolding head
 head-queued row zero ne = absurd (ne refl)
 head-queued row (suc n) ne = head-with-queued row (suc n) (head row n) (head-queued row n) ne

@@ -6,8 +6,8 @@ use mathlib.Core.Bool.{true}
 use mathlib.Core.List.{List}
 use lib.Dec.{eqb}
 use borrow.Author.Tests.{ne-eqb}
+use Rattle.basics.specs.Helpers.{All}
 use Rattle.basics.proofs.Basics.{and-split}
-use Rattle.basics.proofs.Lists.{All}
 use Rattle.rig.specs.declared.Desk.{Desk}
 use Rattle.rig.specs.declared.Message.{Message}
 use Rattle.model.specs.State.{inRange, hasMember}

@@ -10,9 +10,9 @@ use lib.Dec.{eqb, leb}
 use lib.ListN.{length, replicate, length-append}
 use lib.Seq.{take-append-seam}
 use borrow.Author.Tests.{eqb-true, eq-eqb, leb-true, le-leb, not-false}
-use Rattle.basics.specs.Helpers.{first, withoutFirst}
+use Rattle.basics.specs.Helpers.{first, withoutFirst, All}
 use Rattle.basics.proofs.Basics.{by-bool, and-split, or-none, all-at}
-use Rattle.basics.proofs.Lists.{All, all-append, first-holds, all-without}
+use Rattle.basics.proofs.Lists.{all-append, first-holds, all-without}
 use Rattle.rig.specs.declared.Event.{Event}
 use Rattle.rig.specs.declared.Event.the-variants.{Ask, Leave, Deliver}
 use Rattle.rig.specs.declared.Message.{Message}

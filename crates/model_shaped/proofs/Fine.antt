@@ -9,8 +9,8 @@ use native.Mathlib.Omega.{arith}
 use lib.Dec.{eqb, leb}
 use lib.ListN.{length}
 use borrow.Author.Tests.{eqb-true, ne-eqb, leb-true, le-leb}
+use Rattle.basics.specs.Helpers.{All}
 use Rattle.basics.proofs.Basics.{and-split, or-second}
-use Rattle.basics.proofs.Lists.{All}
 use Rattle.rig.specs.declared.Arbiter.{Arbiter}
 use Rattle.rig.specs.declared.Desk.{Desk}
 use Rattle.rig.specs.declared.Message.{Message}

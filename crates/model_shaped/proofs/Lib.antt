@@ -9,3 +9,4 @@ pub mod Deliveries
 pub mod Desks
 pub mod Events
 pub mod Runs
+pub mod Numbered

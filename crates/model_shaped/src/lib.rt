@@ -2,6 +2,7 @@
 // with the code and show in the list of proved functions. Each answers 0.
 ghost use mathlib.Core.Path.{_≡_};
 ghost use Rattle.model_shaped.specs.Kept.{ShapeKeptAt, ShapeKept, RunsPlayable, ShapeLost};
+ghost use Rattle.model_shaped.specs.Numbered.{FailsNumbered};
 
 // A well-shaped state whose arbiters have granted stays one, and every state of a run is one.
 pub fn shape_kept() -> u8
@@ -13,6 +14,13 @@ pub fn shape_kept() -> u8
 // A well-shaped state with an arbiter that has not granted may become misshapen.
 pub fn shape_lost() -> u8
     ensures { λ r. ⌜ (r ≡ 0) × ShapeLost ⌝ }
+{
+    0
+}
+
+// No event on a well-shaped state makes a fail numbered 0.
+pub fn fails_numbered() -> u8
+    ensures { λ r. ⌜ (r ≡ 0) × FailsNumbered ⌝ }
 {
     0
 }

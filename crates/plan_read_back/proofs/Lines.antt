@@ -12,8 +12,9 @@ use lib.Bits.{bitOr, or-shifted-r}
 use lib.Dec.{ltb}
 use lib.ListN.{length}
 use lib.Pow.{mod-pow-add, pow-pos}
+use Rattle.basics.specs.Helpers.{All}
 use Rattle.basics.proofs.Basics.{by-bool, clash, and-split}
-use Rattle.basics.proofs.Lists.{All, all-snoc, all-append, all-map}
+use Rattle.basics.proofs.Lists.{all-snoc, all-append, all-map}
 use Rattle.rig.specs.Limits.{siteLimit}
 use Rattle.model.specs.Sets.{member, names}
 use Rattle.model.proofs.Sets.{names-empty, names-below}

@@ -8,8 +8,8 @@ use native.Mathlib.Omega.{arith}
 use borrow.Author.Tests.{ltb-true, ltb-false, eqb-true, eqb-false, leb-true, le-leb, ne-eqb}
 use lib.Dec.{leb, ltb, eqb}
 use lib.ListN.{getD}
+use Rattle.basics.specs.Helpers.{All}
 use Rattle.basics.proofs.Basics.{by-bool, and-split}
-use Rattle.basics.proofs.Lists.{All}
 use Rattle.player_bytes.specs.Decimal.{digits, decimal}
 use Rattle.player_numbers.specs.Numbers.{isDigit, allDigits, noLeadingZero, value, number}
 use Rattle.player_numbers.specs.declared.Number.the-variants.{Of}

@@ -11,8 +11,9 @@ use lib.Dec.{eqb, ltb}
 use lib.ListN.{take, replicate}
 use lib.Pow.{pow-mono}
 use lib.Seq.{append-snoc, take-at, length-take-le}
+use Rattle.basics.specs.Helpers.{All}
 use Rattle.basics.proofs.Basics.{and-split, all-at}
-use Rattle.basics.proofs.Lists.{All, padded-more}
+use Rattle.basics.proofs.Lists.{padded-more}
 use Rattle.rig.specs.Limits.{siteLimit}
 use Rattle.model.specs.Tables.{at, put}
 use Rattle.model.specs.Sets.{names}

@@ -6,13 +6,12 @@ use mathlib.Core.Path.{_≡_}
 use mathlib.Core.Logic.{_⊎_, _≢_}
 use mathlib.Core.Bool.{Bool, true, false, not, _&&_, _||_, cond}
 use lib.Dec.{eqb}
-use Rattle.basics.specs.Helpers.{count, tally}
+use Rattle.basics.specs.Helpers.{count, tally, All}
 use Rattle.protocol.specs.Ask.{noAsk}
 use Rattle.protocol.specs.Message.{Message, request, reply, release, handOver, inquire, fail, yield, transfer, REPLY, RELEASE, HANDOVER, kind, isOut, isBack}
 use Rattle.protocol.specs.Setting.{Setting}
 use Rattle.protocol.specs.Local.{REST, WAITING, INSIDE, View}
 use Rattle.protocol.specs.Arbiter.{headOf, beforeHolder}
-use Rattle.basics.proofs.Lists.{All}
 use Rattle.protocol.proofs.Invariant.{siteOf, numberOf, isFor, isForNumber, isRequestOf, isHandOver, isFailFor, isInquire, Ordered, Ascending}
 
 -- a reply to k with number n; any reply to k

@@ -5,13 +5,13 @@ use mathlib.Core.Bool.{Bool, false}
 use mathlib.Core.List.{List, [], _∷_}
 use mathlib.Core.Option.{some}
 use native.Mathlib.Omega.{arith}
-use Rattle.basics.specs.Helpers.{tally, first, withoutFirst}
+use Rattle.basics.specs.Helpers.{tally, first, withoutFirst, All}
 use Rattle.protocol.specs.Ask.{noAsk}
 use Rattle.protocol.specs.Message.{Message, request, reply, release, handOver, inquire, fail, yield, transfer, between}
 use Rattle.protocol.specs.Setting.{Setting, SettingLaw}
 use Rattle.protocol.specs.Local.{Local, View, view}
 use Rattle.protocol.specs.Site.{handled}
-use Rattle.basics.proofs.Lists.{All, tally-without}
+use Rattle.basics.proofs.Lists.{tally-without}
 use Rattle.protocol.proofs.Invariant.{FREE, ghost, isFailFor, isInquire, Ordered, Ascending, Invariant}
 use Rattle.protocol.proofs.Sending.{first-underWay}
 use Rattle.protocol.proofs.Owing.{ascending-first}

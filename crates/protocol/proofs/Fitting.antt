@@ -7,13 +7,13 @@ use mathlib.Core.List.{List}
 use native.Mathlib.Omega.{arith}
 use lib.Dec.{eqb}
 use borrow.Author.Tests.{eqb-true, eq-eqb}
-use Rattle.basics.specs.Helpers.{tally}
+use Rattle.basics.specs.Helpers.{tally, All}
 use Rattle.protocol.specs.Ask.{Ask}
 use Rattle.protocol.specs.Message.{Message, request, reply, release, handOver, inquire, fail, yield, transfer, REPLY, RELEASE, YIELD, HANDOVER, kind}
 use Rattle.protocol.specs.Setting.{Setting}
 use Rattle.protocol.specs.Local.{WAITING, Local}
 use Rattle.basics.proofs.Basics.{by-bool, clash, and-split}
-use Rattle.basics.proofs.Lists.{All, all-map-not, all-none}
+use Rattle.basics.proofs.Lists.{all-map-not, all-none}
 use Rattle.protocol.proofs.Invariant.{Ghost, FREE, OUT, YIELDED, RELEASED, ghost, siteOf, numberOf, heirOf, isForNumber, carriesPermission, isRequestOf, isReturnOf, isHandOver, isInquireTo, Situation, situation, Fits, ArbiterRow, Core}
 
 -- the stage of the permission that a message carries

@@ -8,14 +8,13 @@ use mathlib.Core.Logic.{_≢_}
 use mathlib.Core.Bool.{Bool, true, false, _&&_, _||_, cond}
 use mathlib.Core.List.{List, [], _∷_}
 use lib.Dec.{eqb}
-use Rattle.basics.specs.Helpers.{tally}
+use Rattle.basics.specs.Helpers.{tally, All}
 use Rattle.protocol.specs.Ask.{Ask, noAsk}
 use Rattle.protocol.specs.Message.{Message, request, reply, release, handOver, inquire, fail, yield, transfer, REQUEST, INQUIRE, FAIL, HANDOVER, kind, isOut, isBack}
 use Rattle.protocol.specs.Setting.{Setting}
 use Rattle.protocol.specs.Local.{WAITING, INSIDE, Local, View}
 use Rattle.protocol.specs.Arbiter.{headOf}
 use Rattle.protocol.specs.Site.{answersAsk}
-use Rattle.basics.proofs.Lists.{All}
 
 -- owner: the site that has the permission, or had it last when it is on its way back; 0 while it is free.
 -- ahead: 1 while a hand-over has happened that the arbiter has not heard of, else 0: the permission's number is grant + ahead.

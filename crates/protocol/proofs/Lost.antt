@@ -1,19 +1,18 @@
 -- Fails lose their numbers. No clause of the invariant but L1 speaks of a fail's number, and L1 asks for a fail that counts: one without
 -- its number does.
-use Prim.Native.Nat.{ℕ, suc, _+_, _≤_}
+use Prim.Native.Nat.{ℕ, suc, _≤_}
 use mathlib.Core.Path.{_≡_, refl, sym}
 use mathlib.Core.Bool.{Bool, true, false, cond}
 use mathlib.Core.List.{List, [], _∷_}
 use native.Mathlib.Omega.{arith}
 use lib.Dec.{eqb}
-use Rattle.basics.specs.Helpers.{tally}
+use Rattle.basics.specs.Helpers.{tally, All}
 use Rattle.protocol.specs.Message.{Message, request, reply, release, handOver, inquire, fail, yield, transfer}
 use Rattle.protocol.specs.Setting.{Setting}
 use Rattle.protocol.specs.Local.{Local, view}
-use Rattle.protocol.specs.Rig.{Sent, messagesOf, sent, unnumbered, lost}
+use Rattle.protocol.specs.Rig.{Sent, messagesOf, unnumbered, lost}
 use Rattle.basics.proofs.Basics.{by-bool, clash, and-split, and-true}
-use Rattle.basics.proofs.Lists.{All}
-use Rattle.protocol.proofs.Invariant.{numberOf, carriesPermission, isRequestOf, isReturnOf, isHandOver, isFailFor, isInquireTo, isInquire, Ordered, Ascending, Situation, Fits, Invariant}
+use Rattle.protocol.proofs.Invariant.{numberOf, carriesPermission, isRequestOf, isReturnOf, isHandOver, isFailFor, isInquireTo, isInquire, Ordered, Ascending, Fits, Invariant}
 
 -- the message m, or m without its number
 abbrev pub maybeLost : Bool → Message → Message

@@ -1,14 +1,14 @@
 -- Every request, every queue entry, every holder's entry and every fail has the number of an ask that its site has made: no rule makes
 -- a number up. This needs no invariant of the protocol; of the laws it needs only that the head of a queue is queued.
-use Prim.Native.Nat.{ℕ, zero, suc, max}
+use Prim.Native.Nat.{ℕ, suc, max}
 use mathlib.Core.Path.{_≡_, refl}
 use mathlib.Core.Logic.{_≢_}
 use mathlib.Core.Bool.{Bool, true, false, not, _&&_, cond}
-use mathlib.Core.List.{List, [], _∷_}
+use mathlib.Core.List.{List, []}
 use mathlib.Core.Option.{Option, none, some}
 use lib.Dec.{eqb, leb}
 use borrow.Author.Tests.{eqb-true, eqb-false, not-true}
-use Rattle.basics.specs.Helpers.{update, first, withoutFirst}
+use Rattle.basics.specs.Helpers.{update, first, withoutFirst, All}
 use Rattle.protocol.specs.Ask.{Ask, noAsk, isNoAsk}
 use Rattle.protocol.specs.Message.{Message, request, reply, release, handOver, inquire, fail, yield, transfer}
 use Rattle.protocol.specs.Setting.{Setting, SettingLaw}
@@ -16,9 +16,9 @@ use Rattle.protocol.specs.Local.{REST, WAITING, INSIDE, Local, View, vie
 use Rattle.protocol.specs.Arbiter.{fromHolder, isEarly, heldByHeir, headOf, beforeHolder, granted, grantedHead, failTo, formerTold, failFormer, inquireOrFail, answers, queuedUp, onRequest, earlyRelease, onRelease, heirTakesOver, onHandOver, onYield}
 use Rattle.protocol.specs.Site.{yielded, entered, taken, failedInquired, onInquire, namesHeld, onTransfer, takes, onReply, mustYield, failCounts, onFail, handled}
 use Rattle.protocol.specs.System.{System, Lawful, settingOf}
-use Rattle.protocol.specs.Rig.{Row, Sent, Rig, rowOf, sentBy, inOrder, channel, Event, ask, leave, deliver, lose, localAt, rowsTaken, asked, left, allHeld, withEffect, delivered, takenOff, step, fresh}
+use Rattle.protocol.specs.Rig.{Row, Sent, Rig, rowOf, channel, Event, ask, leave, deliver, lose, localAt, rowsTaken, asked, left, allHeld, withEffect, delivered, takenOff, step, fresh}
 use Rattle.basics.proofs.Basics.{by-bool, and-split, update-same, update-other}
-use Rattle.basics.proofs.Lists.{All, all-append, all-snoc, all-without}
+use Rattle.basics.proofs.Lists.{all-append, all-snoc, all-without}
 use Rattle.protocol.proofs.RigMessages.{all-sentBy, all-inOrder}
 use Rattle.protocol.proofs.Head.{head-of}
 use Rattle.protocol.proofs.Seen.{law-of}

@@ -1,12 +1,12 @@
 -- Every number of a run is at most twice the count of its events. This needs no invariant of the protocol.
-use Prim.Native.Nat.{ℕ, zero, suc, _+_, _*_, _≤_, max}
+use Prim.Native.Nat.{ℕ, suc, _+_, _*_, _≤_, max}
 use mathlib.Core.Path.{_≡_, refl}
 use mathlib.Core.Bool.{Bool, true, false, not, _&&_, cond}
 use mathlib.Core.List.{List, [], _∷_}
 use mathlib.Core.Option.{Option, none, some}
 use native.Mathlib.Omega.{arith}
 use lib.Dec.{eqb, leb}
-use Rattle.basics.specs.Helpers.{update, tally, first, withoutFirst}
+use Rattle.basics.specs.Helpers.{update, tally, first, withoutFirst, All}
 use Rattle.protocol.specs.Ask.{Ask, noAsk, isNoAsk}
 use Rattle.protocol.specs.Message.{Message, request, reply, release, handOver, inquire, fail, yield, transfer}
 use Rattle.protocol.specs.Setting.{Setting}
@@ -14,9 +14,9 @@ use Rattle.protocol.specs.Local.{REST, WAITING, INSIDE, Local, View, vie
 use Rattle.protocol.specs.Arbiter.{fromHolder, isEarly, heldByHeir, headOf, beforeHolder, granted, grantedHead, failTo, formerTold, failFormer, inquireOrFail, answers, queuedUp, onRequest, earlyRelease, onRelease, heirTakesOver, onHandOver, onYield}
 use Rattle.protocol.specs.Site.{yielded, entered, taken, failedInquired, onInquire, namesHeld, onTransfer, takes, onReply, mustYield, failCounts, onFail, handled}
 use Rattle.protocol.specs.System.{System, settingOf}
-use Rattle.protocol.specs.Rig.{Row, Sent, Rig, rowOf, sentBy, inOrder, channel, Event, ask, leave, deliver, lose, lost, withoutEntries, localAt, rowsTaken, made, asked, left, allHeld, withEffect, delivered, takenOff, step, run, fresh}
+use Rattle.protocol.specs.Rig.{Row, Sent, Rig, rowOf, channel, Event, ask, leave, deliver, lose, lost, withoutEntries, localAt, rowsTaken, made, asked, left, allHeld, withEffect, delivered, takenOff, step, run, fresh}
 use Rattle.basics.proofs.Basics.{by-bool}
-use Rattle.basics.proofs.Lists.{All, all-append, all-snoc, all-map, all-without}
+use Rattle.basics.proofs.Lists.{all-append, all-snoc, all-map, all-without}
 use Rattle.protocol.proofs.Invariant.{numberOf}
 use Rattle.protocol.proofs.RigMessages.{all-sentBy, all-inOrder}
 use Rattle.protocol.proofs.Lost.{maybe-lost}

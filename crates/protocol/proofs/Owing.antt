@@ -8,12 +8,12 @@ use mathlib.Core.Option.{some}
 use native.Mathlib.Omega.{arith}
 use lib.Dec.{eqb}
 use borrow.Author.Tests.{eqb-true, eqb-false, eq-eqb}
-use Rattle.basics.specs.Helpers.{update, first, withoutFirst}
+use Rattle.basics.specs.Helpers.{update, first, withoutFirst, All}
 use Rattle.protocol.specs.Ask.{Ask}
 use Rattle.protocol.specs.Message.{Message, inquire, INQUIRE, kind, route, between}
 use Rattle.protocol.specs.Setting.{Setting}
 use Rattle.basics.proofs.Basics.{by-bool, clash, and-split}
-use Rattle.basics.proofs.Lists.{All, all-map, first-holds, snoc-keep, snoc-zero}
+use Rattle.basics.proofs.Lists.{all-map, first-holds, snoc-keep, snoc-zero}
 use Rattle.protocol.proofs.Invariant.{siteOf, numberOf, isFailFor, isInquireTo, isInquire, Ascending, Situation, Column, UnderWay, Owed}
 use Rattle.protocol.proofs.Sending.{route-from}
 use Rattle.protocol.proofs.Fitting.{fits-inquire}

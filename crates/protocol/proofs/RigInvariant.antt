@@ -5,13 +5,13 @@ use mathlib.Core.Path.{_≡_}
 use mathlib.Core.Logic.{_≢_}
 use mathlib.Core.Bool.{true, false}
 use mathlib.Core.Option.{some}
-use Rattle.basics.specs.Helpers.{first}
+use Rattle.basics.specs.Helpers.{first, All}
 use Rattle.protocol.specs.Message.{Message, between}
 use Rattle.protocol.specs.Local.{REST, WAITING, INSIDE}
 use Rattle.protocol.specs.System.{System, Lawful, settingOf}
 use Rattle.protocol.specs.Rig.{Sent, Rig, messagesOf, sent, channel}
 use Rattle.basics.proofs.Basics.{by-bool}
-use Rattle.basics.proofs.Lists.{All, all-without}
+use Rattle.basics.proofs.Lists.{all-without}
 use Rattle.protocol.proofs.Invariant.{siteOf, Invariant}
 use Rattle.protocol.proofs.Seen.{viewOf, law-of}
 use Rattle.protocol.proofs.Clauses.{FitsTables, Clauses, fits-member}

@@ -8,11 +8,11 @@ use mathlib.Core.Option.{some}
 use native.Mathlib.Omega.{arith}
 use lib.Dec.{eqb, ltb}
 use borrow.Author.Tests.{eqb-true, eqb-false, eq-eqb, ne-eqb, ltb-true, ltb-false}
-use Rattle.basics.specs.Helpers.{first, withoutFirst}
+use Rattle.basics.specs.Helpers.{first, withoutFirst, All}
 use Rattle.protocol.specs.Message.{Message, between}
 use Rattle.protocol.specs.Rig.{Sent, messagesOf, sentBy, inOrder, channel}
 use Rattle.basics.proofs.Basics.{by-bool}
-use Rattle.basics.proofs.Lists.{All, all-append}
+use Rattle.basics.proofs.Lists.{all-append}
 
 -- a longer list
 pub messages-append : (j : ℕ) (xs ys : List Sent) → messagesOf j (xs ++ ys) ≡ messagesOf j xs ++ messagesOf j ys

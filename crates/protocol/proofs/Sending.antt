@@ -10,11 +10,11 @@ use mathlib.Core.Option.{some}
 use native.Mathlib.Omega.{arith}
 use lib.Dec.{eqb}
 use borrow.Author.Tests.{eqb-true, eq-eqb}
-use Rattle.basics.specs.Helpers.{tally, first, withoutFirst}
+use Rattle.basics.specs.Helpers.{tally, first, withoutFirst, All}
 use Rattle.protocol.specs.Message.{Message, request, reply, release, handOver, inquire, fail, yield, transfer, REQUEST, RELEASE, INQUIRE, YIELD, HANDOVER, kind, route, between, isBack}
 use Rattle.protocol.specs.Setting.{Setting}
 use Rattle.basics.proofs.Basics.{by-bool, clash, and-split}
-use Rattle.basics.proofs.Lists.{tally-cons, tally-snoc, tally-snoc-no, All, all-snoc, first-holds, tally-without, all-without}
+use Rattle.basics.proofs.Lists.{tally-cons, tally-snoc, tally-snoc-no, all-snoc, first-holds, tally-without, all-without}
 use Rattle.protocol.proofs.Invariant.{siteOf, carriesPermission, isRequestOf, isReturnOf, isHandOver, Ordered, Situation, Fits, UnderWay}
 
 -- a return may be sent where no request of that site is under way

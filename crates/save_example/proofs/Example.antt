@@ -25,7 +25,9 @@ use Rattle.model.specs.Run.{fresh, run}
 use Rattle.player_bytes.specs.Decimal.{digits, decimal}
 use Rattle.plan_lines.specs.Lines.{membersUpTo, listText}
 use Rattle.save_lines.specs.Lines.{fieldText, fieldsText}
-use Rattle.save_fields.specs.Fields.{modeNumbers, holderNumbers, entriesUpTo, entries, hasAbout, numbersWith, messageNumbers}
+use Rattle.save_fields.specs.Fields.{modeNumbers, holderNumbers}
+use Rattle.save_entries.specs.Entries.{entriesUpTo, entries}
+use Rattle.save_messages.specs.Messages.{hasAbout, numbersWith, messageNumbers}
 use Rattle.save_text.specs.Text.{eachUpTo, sitesField, setField, acceptedField, fieldsIn, textIn, siteFields, arbiterFields, messageField, thisSpelling, textOf}
 
 -- the bytes of a text of ASCII characters

@@ -7,8 +7,8 @@ use native.Mathlib.Omega.{arith}
 use lib.Dec.{eqb}
 use lib.ListN.{length, replicate}
 use borrow.Author.Tests.{eqb-true}
+use Rattle.basics.specs.Helpers.{All}
 use Rattle.basics.proofs.Basics.{by-bool}
-use Rattle.basics.proofs.Lists.{All}
 use Rattle.rig.specs.declared.Arbiter.{Arbiter}
 use Rattle.rig.specs.declared.Mode.{Mode}
 use Rattle.rig.specs.declared.Mode.the-variants.{Rest, Waiting, Inside}

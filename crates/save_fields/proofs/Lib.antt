@@ -1,5 +1,2 @@
--- Laws of the fields as numbers.
-pub mod Rows
+-- Laws of a mode and an arbiter as numbers.
 pub mod Fields
-pub mod Messages
-pub mod Values

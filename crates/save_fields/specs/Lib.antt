@@ -1,3 +1,3 @@
--- The fields of a state as numbers, and back.
+-- A mode and an arbiter as numbers, and back.
 pub mod Fields
 pub mod Values

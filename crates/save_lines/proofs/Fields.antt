@@ -8,8 +8,9 @@ use borrow.Author.Tests.{le-leb, leb-true, ne-eqb, not-true}
 use lib.Dec.{eqb, leb}
 use lib.ListN.{length, getD, set, replicate, length-append, length-set}
 use lib.Seq.{set-getD, set-set, getD-set-same, set-append-seam, getD-append-seam, append-snoc}
+use Rattle.basics.specs.Helpers.{All}
 use Rattle.basics.proofs.Basics.{and-split}
-use Rattle.basics.proofs.Lists.{All, all-append}
+use Rattle.basics.proofs.Lists.{all-append}
 use Rattle.rig.specs.Limits.{siteLimit, numberLimit}
 use Rattle.player_bytes.specs.Decimal.{decimal}
 use Rattle.player_numbers.specs.Numbers.{isDigit, allDigits, value}

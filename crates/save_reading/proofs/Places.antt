@@ -3,20 +3,14 @@ use Prim.Native.Nat.{ℕ, zero, suc, _+_, _≤_}
 use mathlib.Core.List.{List, []}
 use mathlib.Core.Path.{_≡_, refl, ap, _∙_}
 use native.Mathlib.Omega.{arith}
-use borrow.Author.Tests.{ltb-true}
-use lib.Dec.{ltb}
 use lib.ListN.{length, drop}
 use lib.Seq.{drop-drop, getD-drop}
-use Rattle.basics.proofs.Basics.{by-bool}
 use Rattle.save_lines.specs.Lines.{linesIn, numbersIn}
-use Rattle.save_lines.specs.Places.{lineEnd, nextLine}
 use Rattle.save_lines.proofs.Places.{line-here, line-rest}
 use Rattle.save_text.specs.Reading.{lineAt, numbersAt}
-use Rattle.save_reading.specs.Places.{lineHere, numbersHere, placeBehind, lineStart}
-
-pub behind-within : (text : List ℕ) (at : ℕ) → placeBehind text at ≤ length text
-unfolding nextLine
-behind-within text at = by-bool (ltb (lineEnd text at) (length text)) (λ e. let l = ltb-true (lineEnd text at) (length text) e in rw e (omega arith)) (λ e. rw e (omega arith))
+use Rattle.save_taking.specs.Places.{lineHere, numbersHere}
+use Rattle.save_taking.proofs.Places.{behind-within}
+use Rattle.save_reading.specs.Places.{lineStart}
 
 pub start-within : (text : List ℕ) (i : ℕ) → lineStart text i ≤ length text
 unfolding lineStart

@@ -16,10 +16,11 @@ use Rattle.player_text.specs.Player.{setIn}
 use Rattle.save_lines.specs.Lines.{linesIn}
 use Rattle.save_text.specs.Reading.{numbersAt, siteLine, arbiterLine, orZero, setFrom, siteFrom, arbiterAt, ownRow, queueRow, arrayOf}
 use Rattle.family_sets.proofs.Members.{member-of}
-use Rattle.save_fields.proofs.Rows.{row-same}
-use Rattle.save_reading.specs.declared.TakenLine.{TakenLine}
-use Rattle.save_reading.specs.Places.{placeBehind, lineStart}
-use Rattle.save_reading.specs.Parts.{meantHere, siteHere, arbiterHere, rowHere, withRow, withOwn}
+use Rattle.save_entries.proofs.Rows.{row-same}
+use Rattle.save_taking.specs.declared.TakenLine.{TakenLine}
+use Rattle.save_taking.specs.Places.{placeBehind}
+use Rattle.save_taking.specs.Parts.{meantHere, siteHere, arbiterHere, rowHere, withRow, withOwn}
+use Rattle.save_reading.specs.Places.{lineStart}
 use Rattle.save_reading.specs.Lines.{ownTables, allTables}
 use Rattle.save_reading.proofs.Places.{line-at, numbers-at}
 use Rattle.save_reading.proofs.Arrays.{array-more}

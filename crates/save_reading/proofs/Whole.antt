@@ -18,13 +18,13 @@ use Rattle.player_text.specs.Player.{sizeIn}
 use Rattle.save_lines.specs.Lines.{linesIn}
 use Rattle.save_fields.specs.Fields.{nth}
 use Rattle.save_text.specs.Reading.{orZero, numbersAt, acceptedLine, messageLine, sizeFrom, setsFrom, tablesOf, messagesFrom, stateFrom}
-use Rattle.save_reading.specs.declared.Taken.{Taken}
-use Rattle.save_reading.specs.declared.TakenLine.{TakenLine}
+use Rattle.save_taking.specs.declared.Taken.{Taken}
+use Rattle.save_taking.specs.declared.TakenLine.{TakenLine}
+use Rattle.save_taking.specs.Parts.{takenHere, meantHere}
 use Rattle.save_reading.specs.declared.TakenSites.{TakenSites}
 use Rattle.save_reading.specs.declared.TakenArbiters.{TakenArbiters}
 use Rattle.save_reading.specs.declared.TakenMessages.{TakenMessages}
 use Rattle.save_reading.specs.Places.{lineStart}
-use Rattle.save_reading.specs.Parts.{takenHere, meantHere}
 use Rattle.save_reading.specs.Lines.{takenSets, takenSites, takenArbiters, allTables, messagesIn, messageRows, ReadsMessages, GivesLines}
 use Rattle.save_reading.proofs.Places.{lines-left, line-at, numbers-at}
 

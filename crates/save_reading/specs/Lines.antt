@@ -11,10 +11,10 @@ use Rattle.model.specs.Setup.{restingSite, freeArbiter}
 use Rattle.list_rows.specs.Rows.{rowOf, zeroRow, ZeroPast}
 use Rattle.list_rows.specs.State.{stored}
 use Rattle.save_lines.specs.Lines.{linesIn, numbersIn}
-use Rattle.save_fields.specs.Fields.{messageFrom}
+use Rattle.save_messages.specs.Messages.{messageFrom}
 use Rattle.save_text.specs.Reading.{acceptedLine, arbiterLine, messageLine, sizeFrom, setFrom, arrayOf, siteFrom, arbiterAt, ownRow, queueRow, messagesFrom, stateFrom}
+use Rattle.save_taking.specs.declared.Taken.{Taken}
 use Rattle.save_reading.specs.declared.Given.{Given}
-use Rattle.save_reading.specs.declared.Taken.{Taken}
 use Rattle.save_reading.specs.declared.TakenSites.{TakenSites}
 use Rattle.save_reading.specs.declared.TakenArbiters.{TakenArbiters}
 use Rattle.save_reading.specs.declared.TakenMessages.{TakenMessages}

@@ -1,10 +1,10 @@
 // A state whose list is in rows, written as a text and read from one.
 use list_rows::Rows;
 use player_bytes::put_word;
-use player_bytes::same_bytes;
 use rig::Answer;
 use rig::Rig;
 use rig::Tables;
+use save_matching::is_text_of;
 use save_reading::read_lines;
 use save_text::LONGEST;
 use save_writing::put_state;
@@ -15,8 +15,6 @@ ghost use Prim.Native.Nat.{_≤_};
 ghost use Rattle.rig.specs.Limits.{messageLimit};
 ghost use Rattle.list_rows.specs.Rows.{zeroRows};
 ghost use Rattle.list_rows.specs.State.{before};
-ghost use Rattle.save_text.specs.Text.{thisSpelling};
-ghost use Rattle.save_text.specs.Reading.{isTextOf};
 ghost use Rattle.save_rows.specs.Rows.{inBuffer, writtenWith, ReadsRows};
 
 // The code of writing, and the text's length.
@@ -86,17 +84,4 @@ pub fn read_rows(text: &[u8], len: usize, tables: &mut Tables, list: &mut Rows) 
         rig: rig,
         count: given.count,
     }
-}
-
-// Whether a state is well shaped and these bytes are its text.
-fn is_text_of(text: &[u8], rig: Rig, tables: &Tables, list: &Rows, count: usize) -> bool
-    requires { ⌜ count ≤ messageLimit ⌝ }
-    ensures { λ r. ⌜ r ≡ isTextOf thisSpelling (now (text .entry)) (before rig tables list count) ⌝ }
-{
-    if !well_shaped(rig, tables, list, count) {
-        return false;
-    }
-    let mut page = [0u8; LONGEST];
-    let n = put_state(&mut page, rig, tables, list, count);
-    same_bytes(&page[..n], text)
 }

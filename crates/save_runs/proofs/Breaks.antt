@@ -69,7 +69,7 @@ pub record Beside (s t : Stored) : Type 0 where
   pub state : IsState t
   pub long : length (s .list) ≡ messageLimit
 
-beside-state : {s t : Stored} → Beside s t → IsState s
+pub beside-state : {s t : Stored} → Beside s t → IsState s
 beside-state {s} {t} b = state-same (b .same) (b .long) (b .state)
 
 -- a refused reading changes nothing
@@ -131,6 +131,11 @@ moved-beside {s} {t} (loses p) b = (
   },
 )
 
+pub moves-beside : (ms : List Move) {s t : Stored} → Beside s t → Beside (runWithLosses s ms) (runWithLosses t ms)
+unfolding runWithLosses
+moves-beside [] b = b
+moves-beside (m ∷ ms) b = moves-beside ms (moved-beside m b .1)
+
 pub breaks-beside : (acts : List Act) {s t : Stored} → Beside s t → Beside (runWithBreaks s acts) (runWithLosses t (movesIn acts)) × (codesWithBreaks s acts ≡ codes t (movesIn acts))
 unfolding runWithBreaks after runWithLosses movesIn codesWithBreaks codes
 breaks-beside [] b = (b, refl)
@@ -140,7 +145,7 @@ breaks-beside (moves m ∷ acts) b =
     (r .0, λ i. n .0 i ++ r .1 i)
 breaks-beside (pauses buffer lent ∷ acts) b = breaks-beside acts (break-beside buffer lent b)
 
-self-beside : (s : Stored) → IsState s → Beside s s
+pub self-beside : (s : Stored) → IsState s → Beside s s
 self-beside s h = record { same = same-self s; state = h; long = h .list }
 
 pub breaks-unseen : BreaksUnseen

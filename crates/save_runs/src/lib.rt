@@ -1,7 +1,7 @@
 // Runs with breaks, in which the state is saved and read back. The functions below have the claims about them as their contracts. Each answers 0.
 ghost use mathlib.Core.Path.{_≡_};
 ghost use Rattle.save_runs.specs.Breaks.{SoundWithBreaks, BreaksUnseen, BreaksTaken, LinesKept};
-ghost use Rattle.save_runs.specs.Update.{UpdateSound};
+ghost use Rattle.save_runs.specs.Update.{EarlierRead, UpdateSound};
 
 // Demand 3 of runs with breaks: after every event and every break, at most one site is inside, every permission is in one place, and no rig is stuck.
 pub fn sound_with_breaks() -> u8
@@ -10,9 +10,10 @@ pub fn sound_with_breaks() -> u8
     0
 }
 
-// A text that the version before request 2.3 has saved in a run is read, and demand 3 holds of every run from there.
+// Every text of the version before request 2.3 is read, and written back as it is. Where it was saved in a run, with breaks, demand 3 holds of every run
+// from there.
 pub fn update_sound() -> u8
-    ensures { λ r. ⌜ (r ≡ 0) × UpdateSound ⌝ }
+    ensures { λ r. ⌜ (r ≡ 0) × EarlierRead × UpdateSound ⌝ }
 {
     0
 }

@@ -14,8 +14,8 @@ use Rattle.model.specs.Shape.{messageShaped, messagesShaped}
 use Rattle.model.specs.Losses.{unnumbered, lost, lostAll}
 use Rattle.model.proofs.Shaped.{shaped}
 use Rattle.save_lines.specs.Lines.{field}
-use Rattle.save_fields.specs.Fields.{numbersWith, messageNumbers}
-use Rattle.save_fields.proofs.Messages.{numbered}
+use Rattle.save_messages.specs.Messages.{numbersWith, messageNumbers}
+use Rattle.save_messages.proofs.Messages.{numbered}
 use Rattle.save_text.specs.Text.{messageWord, fieldsIn, textIn, messageField, thisSpelling, textOf, firstMessageField, firstSpelling}
 use Rattle.save_text.specs.Claims.{FirstSpelled}
 

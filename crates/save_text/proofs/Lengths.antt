@@ -14,7 +14,7 @@ use Rattle.model.specs.Tables.{at}
 use Rattle.player_bytes.specs.Decimal.{digits, decimal}
 use Rattle.plan_lines.specs.Lines.{membersUpTo, listText}
 use Rattle.save_lines.specs.Lines.{Field, field, fieldText, fieldsText}
-use Rattle.save_fields.specs.Fields.{entriesUpTo}
+use Rattle.save_entries.specs.Entries.{entriesUpTo}
 use Rattle.save_text.specs.Text.{eachUpTo}
 
 -- a number below 10 ^ k has at most k digits, but one at least

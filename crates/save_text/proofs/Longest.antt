@@ -19,8 +19,10 @@ use Rattle.model.proofs.Shaped.{Shaped, shaped, about-high}
 use Rattle.player_bytes.specs.Decimal.{decimal}
 use Rattle.player_grammar.specs.Grammar.{sitesWord, setWord}
 use Rattle.save_lines.specs.Lines.{fieldText, fieldsText}
-use Rattle.save_fields.specs.Fields.{modeNumbers, holderNumbers, entries, hasAbout, numbersWith, messageNumbers}
-use Rattle.save_fields.proofs.Messages.{from-high, to-high, number-high, kind-high}
+use Rattle.save_fields.specs.Fields.{modeNumbers, holderNumbers}
+use Rattle.save_entries.specs.Entries.{entries}
+use Rattle.save_messages.specs.Messages.{hasAbout, numbersWith, messageNumbers}
+use Rattle.save_messages.proofs.Messages.{from-high, to-high, number-high, kind-high}
 use Rattle.save_text.specs.Text.{acceptedWord, clockWord, modeWord, heldWord, heirWord, inquiredWord, grantWord, holderWord, queuedWord, messageWord, sitesField, setField, acceptedField, fieldsIn, textIn, siteFields, arbiterFields, messageField, thisSpelling, textOf}
 use Rattle.save_text.specs.Claims.{longest, NoneLonger}
 use Rattle.save_text.proofs.Facts.{held-small, heir-small, inquired-small, queued-small, site-small, grant-small, holder-small}

@@ -10,8 +10,9 @@ use lib.ListN.{length, take, getD, replicate, List·getD-map, getD-replicate, le
 use lib.Pow.{pow-mono}
 use lib.Seq.{ext-getD, length-take-le, take-at}
 use borrow.Author.Tests.{eqb-true, eq-eqb, ltb-true, lt-ltb}
+use Rattle.basics.specs.Helpers.{All}
 use Rattle.basics.proofs.Basics.{by-bool, clash, and-split, and-true, all-at}
-use Rattle.basics.proofs.Lists.{All, all-append, all-map, drop-map}
+use Rattle.basics.proofs.Lists.{all-append, all-map, drop-map}
 use Rattle.rig.specs.declared.Message.{Message}
 use Rattle.rig.specs.Limits.{siteLimit, numberLimit, blankRow, SiteNumber}
 use Rattle.model.specs.Tables.{at, cell}
@@ -28,11 +29,13 @@ use Rattle.plan_lines.specs.Lines.{membersUpTo, listText}
 use Rattle.plan_read_back.proofs.Lines.{sites-read, set-read, members-within}
 use Rattle.save_lines.specs.Lines.{Field, field, linesIn, numbersIn}
 use Rattle.save_lines.proofs.Fields.{PlainWord, plainBytes, PlainField, lineOf, lines-of-fields, numbers-of-field}
-use Rattle.save_fields.specs.Fields.{nth, modeNumbers, holderNumbers, entries, rowFrom, messageNumbers, messageFrom}
-use Rattle.save_fields.proofs.Rows.{entries-short, entries-bound, row-back-within}
+use Rattle.save_fields.specs.Fields.{nth, modeNumbers, holderNumbers}
+use Rattle.save_entries.specs.Entries.{entries, rowFrom}
+use Rattle.save_messages.specs.Messages.{messageNumbers, messageFrom}
+use Rattle.save_entries.proofs.Rows.{entries-short, entries-bound, row-back-within}
 use Rattle.save_fields.proofs.Fields.{mode-back, mode-short, mode-bound, arbiter-back, holder-short, holder-bound}
-use Rattle.save_fields.proofs.Values.{members-few}
-use Rattle.save_fields.proofs.Messages.{message-back, message-short, message-bound, from-high, to-high, number-high, kind-high, about-none}
+use Rattle.save_entries.proofs.Values.{members-few}
+use Rattle.save_messages.proofs.Messages.{message-back, message-short, message-bound, from-high, to-high, number-high, kind-high, about-none}
 use Rattle.save_text.specs.Text.{clockWord, modeWord, heldWord, heirWord, inquiredWord, grantWord, holderWord, queuedWord, messageWord, eachUpTo, sitesField, setField, acceptedField, fieldsIn, textIn, siteFields, arbiterFields, messageField, thisSpelling, textOf}
 use Rattle.save_text.specs.Reading.{lineAt, numbersAt, siteLine, arbiterLine, messageLine, sizeFrom, setFrom, arrayOf, siteFrom, arbiterAt, ownRow, queueRow, tablesOf, setsFrom, messagesFrom, stateFrom, isTextOf, accepts, readText}
 use Rattle.save_text.specs.Claims.{IsTable, IsState, kept, ReadBack, WrittenBack}

@@ -17,7 +17,9 @@ use Rattle.player_bytes.specs.Same.{same}
 use Rattle.player_grammar.specs.Grammar.{meaningOf}
 use Rattle.player_text.specs.Player.{sizeIn, setIn}
 use Rattle.save_lines.specs.Lines.{linesIn, numbersIn}
-use Rattle.save_fields.specs.Fields.{nth, modeFrom, arbiterFrom, rowFrom, messageFrom}
+use Rattle.save_fields.specs.Fields.{nth, modeFrom, arbiterFrom}
+use Rattle.save_entries.specs.Entries.{rowFrom}
+use Rattle.save_messages.specs.Messages.{messageFrom}
 use Rattle.save_text.specs.Text.{Spelling, textIn, thisSpelling}
 
 -- line i of a text, from 0, and its numbers

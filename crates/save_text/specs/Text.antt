@@ -12,7 +12,9 @@ use Rattle.model.specs.State.{Tables, Stored, underWay, sizeOf, setsOf, hasMemb
 use Rattle.player_grammar.specs.Grammar.{sitesWord, setWord}
 use Rattle.plan_lines.specs.Lines.{membersUpTo}
 use Rattle.save_lines.specs.Lines.{Field, field, fieldsText}
-use Rattle.save_fields.specs.Fields.{modeNumbers, holderNumbers, entries, numbersWith, messageNumbers}
+use Rattle.save_fields.specs.Fields.{modeNumbers, holderNumbers}
+use Rattle.save_entries.specs.Entries.{entries}
+use Rattle.save_messages.specs.Messages.{numbersWith, messageNumbers}
 
 -- `accepted=`, `clock=`, `mode=`, `held=`, `heir=`, `inquired=`, `grant=`, `holder=`, `queued=`, `message=`
 abbrev pub acceptedWord : List ℕ

@@ -1,4 +1,3 @@
--- Laws of lines put one behind the other.
-pub mod Puts
-pub mod Askers
+-- Laws of the lines of a state.
+pub mod Each
 pub mod State

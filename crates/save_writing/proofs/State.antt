@@ -12,7 +12,8 @@ use Rattle.player_printing.proofs.Lines.{wrote-line}
 use Rattle.save_text.specs.Text.{textIn, textOf}
 use Rattle.save_text.specs.Claims.{longest, NoneLonger}
 use Rattle.save_text.proofs.Longest.{none-longer}
-use Rattle.save_writing.specs.Puts.{Fits, Puts, stateLines}
+use Rattle.save_putting.specs.Puts.{Fits, Puts}
+use Rattle.save_writing.specs.Lines.{stateLines}
 
 module _ (s : Stored) (e : wellShaped s ≡ true) (page : List ℕ) (long : length page ≡ longest) where
   pub state-fits : Fits (stateLines s) 0 page

@@ -1,2 +1,2 @@
--- What the writing of lines asks of a page, and does to it.
-pub mod Puts
+-- The lines of a state, of what the code has.
+pub mod Lines

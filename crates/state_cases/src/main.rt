@@ -18,6 +18,7 @@ fn main() {
     print_wrong_uses();
     print_long();
     print_longer_words();
+    print_old_fails();
 }
 
 // Each command by the argument that is its first word, and how many words it has, its own name among them; its input is named by the argument behind them.
@@ -96,6 +97,18 @@ fn print_long() {
 fn print_longer_words() {
     print_case(119, 3);
     print_case(122, 3);
+}
+
+// A text that the version before request 2.3 has saved, with a fail numbered 0 to a waiting site: it is written back as it is, and the fail counts. The same
+// with the number of an ask that is over: it does nothing. A number 0 that is written: no saved text.
+fn print_old_fails() {
+    print_case(125, 3);
+    print_case(128, 3);
+    print_case(131, 3);
+    print_case(134, 3);
+    print_case(137, 3);
+    print_case(140, 3);
+    print_case(143, 3);
 }
 
 // A case whose input is read few bytes at a time.

@@ -7,8 +7,9 @@ use mathlib.Core.Option.{Option, none, some, Option·none-ne-some, Option·some-
 use mathlib.Core.Path.{_≡_, refl}
 use native.Mathlib.Omega.{arith}
 use lib.ListN.{length, getD, replicate, length-append, length-replicate}
+use Rattle.basics.specs.Helpers.{All}
 use Rattle.basics.proofs.Basics.{by-bool}
-use Rattle.basics.proofs.Lists.{All, all-snoc, all-append}
+use Rattle.basics.proofs.Lists.{all-snoc, all-append}
 use Rattle.rig.specs.Limits.{siteLimit, messageLimit, blankRow, SiteNumber}
 use Rattle.model.specs.Tables.{at}
 use Rattle.model.specs.State.{Stored}
@@ -18,7 +19,7 @@ use Rattle.model.proofs.Shaped.{shaped}
 use Rattle.model_shaped.specs.Kept.{allGranted, HeldRows}
 use Rattle.player_playing.specs.State.{firstPlaying}
 use Rattle.player_text.specs.Calls.{FitsEvents}
-use Rattle.save_fields.specs.Fields.{rowUpTo, rowFrom}
+use Rattle.save_entries.specs.Entries.{rowUpTo, rowFrom}
 use Rattle.save_lines.specs.Lines.{linesIn}
 use Rattle.save_rows.specs.Rows.{noneRead, readCode}
 use Rattle.save_text.specs.Text.{thisSpelling}

@@ -41,7 +41,11 @@ pub enum Body {
         grant: u32,
     },
     /// An arbiter tells a site that others come first.
-    Fail,
+    Fail {
+        /// The sequence number of the ask it is about; none (0) in one that
+        /// the version before request 2.3 has sent.
+        seq: Option<u32>,
+    },
     /// A site gives the permission back before having been inside.
     Yield {
         /// The grant number.
@@ -57,7 +61,7 @@ pub enum Body {
 }
 
 impl Body {
-    /// The sequence or grant number carried; 0 in a fail.
+    /// The sequence or grant number carried; 0 if there is none.
     pub fn number(&self) -> u32 {
         match *self {
             Body::Request { seq } => seq,
@@ -66,7 +70,7 @@ impl Body {
             | Body::Inquire { grant }
             | Body::Yield { grant }
             | Body::Transfer { grant, .. } => grant,
-            Body::Fail => 0,
+            Body::Fail { seq } => seq.unwrap_or(0),
         }
     }
 }

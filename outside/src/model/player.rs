@@ -4,20 +4,26 @@ use std::io::Write;
 
 use super::grammar::{event_line, set_line, sites_line, Event, Line, Lines};
 use super::setup::{judge_count, judge_sets};
-use super::{Refusal, Rig, Site};
+use super::{Refusal, Rig, Site, Version};
 
 /// Plays a text and gives all that is printed.
 pub fn play(text: &[u8]) -> Vec<u8> {
-    play_with(text, Rig::apply)
+    play_by(Version::Present, text)
 }
 
-/// Plays a text with another step in place of [`Rig::apply`].
-pub fn play_with(text: &[u8], mut step: impl FnMut(&mut Rig, Event) -> Result<(), Refusal>) -> Vec<u8> {
-    let mut lines = Lines::new(text);
+/// The same by the rules of a version.
+pub fn play_by(version: Version, text: &[u8]) -> Vec<u8> {
+    play_with(version, text, Rig::apply)
+}
+
+/// The same with another step in place of [`Rig::apply`].
+pub fn play_with(
+    version: Version,
+    text: &[u8],
+    mut step: impl FnMut(&mut Rig, Event) -> Result<(), Refusal>,
+) -> Vec<u8> {
     let mut output = Vec::new();
-    let outcome =
-        read_rig(&mut lines).and_then(|mut rig| play_events(&mut lines, &mut rig, &mut step, &mut output));
-    if let Err(stop) = outcome {
+    if let Err(stop) = play_text(version, text, &mut step, &mut output) {
         writeln!(output, "{stop}").expect("a Vec takes all");
     }
     output
@@ -25,9 +31,24 @@ pub fn play_with(text: &[u8], mut step: impl FnMut(&mut Rig, Event) -> Result<()
 
 /// Plays a text and gives the state after its last event.
 pub fn last_state(text: &[u8]) -> Result<Rig, Stop> {
+    last_state_by(Version::Present, text)
+}
+
+/// The same by the rules of a version.
+pub fn last_state_by(version: Version, text: &[u8]) -> Result<Rig, Stop> {
+    play_text(version, text, &mut Rig::apply, &mut Vec::new())
+}
+
+/// Plays a whole text and gives the last state.
+fn play_text(
+    version: Version,
+    text: &[u8],
+    step: &mut impl FnMut(&mut Rig, Event) -> Result<(), Refusal>,
+    output: &mut Vec<u8>,
+) -> Result<Rig, Stop> {
     let mut lines = Lines::new(text);
-    let mut rig = read_rig(&mut lines)?;
-    play_events(&mut lines, &mut rig, &mut Rig::apply, &mut Vec::new())?;
+    let mut rig = read_rig(&mut lines)?.by(version);
+    play_events(&mut lines, &mut rig, step, output)?;
     Ok(rig)
 }
 
@@ -144,7 +165,9 @@ step=13 code=7 inside=0 waiting=0 flying=0
 
     #[test]
     fn the_printed_example() {
-        assert_eq!(played(EXAMPLE), EXAMPLE_OUTPUT);
+        for version in [Version::Present, Version::Earlier] {
+            assert_eq!(play_by(version, EXAMPLE.as_bytes()), EXAMPLE_OUTPUT.as_bytes());
+        }
     }
 
     #[test]

@@ -3,7 +3,8 @@
 use super::setup;
 use super::turn::Turn;
 use super::{
-    Desk, Event, Message, Mode, Refusal, Site, LARGEST_NUMBER, MOST_ACCEPTED, MOST_SITES, MOST_UNDER_WAY,
+    Desk, Event, Message, Mode, Refusal, Site, Version, LARGEST_NUMBER, MOST_ACCEPTED, MOST_SITES,
+    MOST_UNDER_WAY,
 };
 
 /// A rig: its desks and the messages under way between them.
@@ -17,6 +18,8 @@ pub struct Rig {
     under_way: Vec<Message>,
     /// The events accepted so far.
     accepted: u32,
+    /// By which rules it goes. This is no part of the state.
+    version: Version,
 }
 
 /// What an event would do, worked out but not yet done.
@@ -38,7 +41,8 @@ impl Rig {
         setup::judge(n, buffer)?;
         let mut members = vec![Vec::new()];
         members.extend(buffer[..n].iter().map(|&set| setup::members(set)));
-        Ok(Rig { members, desks: vec![Desk::fresh(n); n + 1], under_way: Vec::new(), accepted: 0 })
+        let desks = vec![Desk::fresh(n); n + 1];
+        Ok(Rig { members, desks, under_way: Vec::new(), accepted: 0, version: Version::Present })
     }
 
     /// A fresh rig from lists of members, or setup's refusal.
@@ -59,7 +63,17 @@ impl Rig {
     ) -> Rig {
         let members = [&[Vec::new()], lists].concat();
         let desks = [vec![Desk::fresh(lists.len())], desks].concat();
-        Rig { members, desks, under_way, accepted }
+        Rig { members, desks, under_way, accepted, version: Version::Present }
+    }
+
+    /// The same state, going by the rules of this version from now on.
+    pub fn by(self, version: Version) -> Rig {
+        Rig { version, ..self }
+    }
+
+    /// By which rules it goes.
+    pub fn version(&self) -> Version {
+        self.version
     }
 
     /// The number of sites.
@@ -195,7 +209,7 @@ impl Rig {
     }
 
     fn turn(&self, site: Site) -> Turn<'_> {
-        Turn::new(site, self.members(site), self.desk(site))
+        Turn::new(self.version, site, self.members(site), self.desk(site))
     }
 }
 
@@ -280,11 +294,19 @@ mod tests {
         assert_eq!(code(&rig, Event::Leave(1)), 0);
         rig.desk_mut(1).ties[1].heir = Some(2);
         assert_eq!(code(&rig, Event::Leave(1)), 9, "the reply would pass");
+
+        // A fail carries a number that was queued, so it never passes.
+        let mut rig = pair();
+        rig.desk_mut(1).clock = LARGEST_NUMBER - 1;
+        rig.apply(Event::Ask(1)).unwrap();
+        rig.desk_mut(1).arbiter.holder = Some(Claim { seq: 1, site: 2 });
+        let change = rig.plan(Event::Move(1, 1)).unwrap();
+        assert_eq!(change.sent[1].body, Body::Fail { seq: Some(LARGEST_NUMBER) });
     }
 
     #[test]
     fn the_list_may_be_filled_but_not_passed() {
-        let filler = Message { from: 2, to: 2, body: Body::Fail };
+        let filler = Message { from: 2, to: 2, body: Body::Fail { seq: None } };
         let mut rig = pair();
         rig.under_way = vec![filler; MOST_UNDER_WAY - 1];
         rig.apply(Event::Ask(1)).unwrap();

@@ -2,7 +2,8 @@
 
 use super::setup::{judge_count, judge_sets, set_of};
 use super::{
-    Body, Claim, Message, Mode, Rig, Site, Tie, LARGEST_NUMBER, MOST_ACCEPTED, MOST_SITES, MOST_UNDER_WAY,
+    Body, Claim, Message, Mode, Rig, Site, Tie, Version, LARGEST_NUMBER, MOST_ACCEPTED, MOST_SITES,
+    MOST_UNDER_WAY,
 };
 
 impl Rig {
@@ -68,11 +69,12 @@ impl Rig {
             Body::Release { heir: Some(heir), .. } => self.are_tied(from, to) && self.are_tied(heir, to),
             // Who sends a reply is open: the arbiter, or a site handing on.
             Body::Reply { arbiter, .. } => self.are_tied(to, arbiter),
-            Body::Inquire { .. } | Body::Fail => self.are_tied(to, from),
+            Body::Inquire { .. } | Body::Fail { .. } => self.are_tied(to, from),
             Body::Transfer { heir, .. } => self.are_tied(to, from) && self.are_tied(heir, from),
         };
         let number = match body {
-            Body::Fail => true,
+            Body::Fail { seq: None } => true,
+            Body::Fail { .. } if self.version() == Version::Earlier => false,
             _ => is_number(body.number()),
         };
         sites && tied && number
@@ -119,6 +121,8 @@ mod tests {
             assert_eq!(changed(|rig| rig.desk_mut(1).arbiter.put(Claim { seq, site: 2 })), misshapen);
             let message = Message { from: 3, to: 2, body: Body::Yield { grant: seq } };
             assert_eq!(changed(|rig| rig.under_way_mut().push(message)), misshapen);
+            let fail = Message { from: 2, to: 3, body: Body::Fail { seq: Some(seq) } };
+            assert_eq!(changed(|rig| rig.under_way_mut().push(fail)), misshapen);
         }
         assert!(!changed(|rig| rig.desk_mut(2).arbiter.grant = most));
         assert!(changed(|rig| rig.desk_mut(2).arbiter.grant = most + 1));
@@ -126,7 +130,7 @@ mod tests {
             let rig = Rig::of_parts(&[vec![1]], vec![Desk::fresh(1)], Vec::new(), accepted);
             assert_eq!(rig.is_misshapen(), misshapen);
         }
-        let fail = Message { from: 1, to: 1, body: Body::Fail };
+        let fail = Message { from: 1, to: 1, body: Body::Fail { seq: None } };
         assert!(!changed(|rig| *rig.under_way_mut() = vec![fail; MOST_UNDER_WAY]));
         assert!(changed(|rig| *rig.under_way_mut() = vec![fail; MOST_UNDER_WAY + 1]));
     }
@@ -155,7 +159,8 @@ mod tests {
                 assert_eq!(shaped(from, to, Body::Yield { grant: 1 }), asks);
                 assert_eq!(shaped(from, to, Body::Release { heir: None, grant: 1 }), asks);
                 assert_eq!(shaped(from, to, Body::Inquire { grant: 1 }), answers);
-                assert_eq!(shaped(from, to, Body::Fail), answers);
+                assert_eq!(shaped(from, to, Body::Fail { seq: None }), answers);
+                assert_eq!(shaped(from, to, Body::Fail { seq: Some(1) }), answers);
                 for &about in &sites {
                     let heir = |arbiter| matches!((arbiter, about), (1, 1..=3) | (2, 3));
                     let release = Body::Release { heir: Some(about), grant: 1 };
@@ -167,6 +172,16 @@ mod tests {
                     assert_eq!(shaped(from, to, reply), there && granted);
                 }
             }
+        }
+    }
+
+    #[test]
+    fn the_version_before_knows_no_numbered_fail() {
+        for (seq, misshapen) in [(None, false), (Some(1), true)] {
+            let mut rig = rig().by(Version::Earlier);
+            rig.under_way_mut().push(Message { from: 1, to: 2, body: Body::Fail { seq } });
+            assert_eq!(rig.is_misshapen(), misshapen);
+            assert!(!rig.by(Version::Present).is_misshapen());
         }
     }
 

@@ -4,10 +4,11 @@
 //! the receiver's. A turn works on a copy of them and collects what is sent,
 //! so that an event turned down leaves no trace.
 
-use super::{Body, Claim, Desk, Message, Mode, Site};
+use super::{Body, Claim, Desk, Message, Mode, Site, Version};
 
 /// One desk's part in one event.
 pub struct Turn<'a> {
+    version: Version,
     me: Site,
     members: &'a [Site],
     desk: Desk,
@@ -16,8 +17,8 @@ pub struct Turn<'a> {
 
 impl<'a> Turn<'a> {
     /// The turn of desk `me`, whose request set is `members`, ascending.
-    pub fn new(me: Site, members: &'a [Site], desk: &Desk) -> Turn<'a> {
-        Turn { me, members, desk: desk.clone(), sent: Vec::new() }
+    pub fn new(version: Version, me: Site, members: &'a [Site], desk: &Desk) -> Turn<'a> {
+        Turn { version, me, members, desk: desk.clone(), sent: Vec::new() }
     }
 
     /// The desk's new tables and the messages sent, in order.
@@ -28,6 +29,12 @@ impl<'a> Turn<'a> {
     fn send(&mut self, to: Site, body: Body) {
         let from = self.me;
         self.sent.push(Message { from, to, body });
+    }
+
+    /// Sends a fail about a queued claim.
+    fn send_fail(&mut self, queued: Claim) {
+        let seq = (self.version == Version::Present).then_some(queued.seq);
+        self.send(queued.site, Body::Fail { seq });
     }
 
     // The site asks and leaves.
@@ -68,7 +75,7 @@ impl<'a> Turn<'a> {
             Body::Yield { grant } => self.yielded(from, grant),
             Body::Reply { arbiter, grant } => self.reply(arbiter, grant),
             Body::Inquire { grant } => self.inquire(from, grant),
-            Body::Fail => self.fail(),
+            Body::Fail { seq } => self.fail(seq),
             Body::Transfer { heir, grant } => self.transfer(from, heir, grant),
         }
     }
@@ -83,11 +90,11 @@ impl<'a> Turn<'a> {
         let former_head = self.desk.arbiter.head();
         self.desk.arbiter.put(asker);
         if self.desk.arbiter.head() != Some(asker) {
-            return self.send(asker.site, Body::Fail);
+            return self.send_fail(asker);
         }
         if let Some(former) = former_head {
             if former.site != asker.site && former < holder {
-                self.send(former.site, Body::Fail);
+                self.send_fail(former);
             }
         }
         let grant = self.desk.arbiter.grant;
@@ -96,7 +103,7 @@ impl<'a> Turn<'a> {
         if asker < holder {
             self.send(holder.site, Body::Inquire { grant });
         } else {
-            self.send(asker.site, Body::Fail);
+            self.send_fail(asker);
         }
     }
 
@@ -199,10 +206,14 @@ impl<'a> Turn<'a> {
         }
     }
 
-    fn fail(&mut self) {
+    fn fail(&mut self, about: Option<u32>) {
         let Mode::Waiting { seq, .. } = self.desk.mode else {
             return;
         };
+        if about.is_some_and(|about| about != seq) {
+            // It is about another ask.
+            return;
+        }
         self.desk.mode = Mode::Waiting { seq, failed: true };
         for &j in self.members {
             if self.desk.tie(j).inquire.is_some() {
@@ -239,11 +250,16 @@ mod tests {
     const MEMBERS: [Site; 3] = [1, 2, 3];
 
     fn turn(desk: &Desk) -> Turn<'static> {
-        Turn::new(1, &MEMBERS, desk)
+        Turn::new(Version::Present, 1, &MEMBERS, desk)
     }
 
     fn message(to: Site, body: Body) -> Message {
         Message { from: 1, to, body }
+    }
+
+    /// A fail about the ask with this number.
+    fn fail(seq: u32) -> Body {
+        Body::Fail { seq: Some(seq) }
     }
 
     /// What desk 1 does with one message.
@@ -321,18 +337,18 @@ mod tests {
         let (desk, sent) = receive(&desk, 3, Body::Request { seq: 9 });
         assert_eq!(desk.clock, 20);
         assert_eq!(desk.arbiter.queue().len(), 2);
-        assert_eq!(sent, [message(3, Body::Fail)]);
+        assert_eq!(sent, [message(3, fail(9))]);
     }
 
     #[test]
     fn a_new_head_before_the_holder_inquires_and_fails_the_former_head() {
         let mut desk = held_by_4();
-        desk.arbiter.put(Claim { seq: 9, site: 3 });
-        let (_, sent) = receive(&desk, 2, Body::Request { seq: 9 });
+        desk.arbiter.put(Claim { seq: 8, site: 3 });
+        let (_, sent) = receive(&desk, 2, Body::Request { seq: 7 });
         assert_eq!(
             sent,
             [
-                message(3, Body::Fail),
+                message(3, fail(8)),
                 message(4, Body::Transfer { heir: 2, grant: 7 }),
                 message(4, Body::Inquire { grant: 7 }),
             ]
@@ -344,7 +360,7 @@ mod tests {
         let mut desk = held_by_4();
         desk.arbiter.put(Claim { seq: 12, site: 3 });
         let (_, sent) = receive(&desk, 5, Body::Request { seq: 10 });
-        assert_eq!(sent, [message(4, Body::Transfer { heir: 5, grant: 7 }), message(5, Body::Fail),]);
+        assert_eq!(sent, [message(4, Body::Transfer { heir: 5, grant: 7 }), message(5, fail(10)),]);
     }
 
     #[test]
@@ -504,11 +520,36 @@ mod tests {
         let mut desk = waiting(false);
         desk.ties[1] = Tie { held: Some(5), heir: Some(2), inquire: Some(5) };
         desk.ties[2].inquire = Some(6);
-        let (after, sent) = receive(&desk, 3, Body::Fail);
-        assert_eq!(after.mode, Mode::Waiting { seq: 4, failed: true });
-        assert_eq!(after.ties[1], Tie::default());
-        assert_eq!(after.ties[2].inquire, Some(6), "not held, still remembered");
-        assert_eq!(sent, [message(1, Body::Yield { grant: 5 })]);
+        for body in [fail(4), Body::Fail { seq: None }] {
+            let (after, sent) = receive(&desk, 3, body);
+            assert_eq!(after.mode, Mode::Waiting { seq: 4, failed: true });
+            assert_eq!(after.ties[1], Tie::default());
+            assert_eq!(after.ties[2].inquire, Some(6), "not held, still remembered");
+            assert_eq!(sent, [message(1, Body::Yield { grant: 5 })]);
+        }
+        for other in [1, 3, 5, 2_000_000] {
+            assert_eq!(receive(&desk, 3, fail(other)), (desk.clone(), vec![]), "about ask {other}");
+        }
+    }
+
+    #[test]
+    fn the_version_before_sends_no_number() {
+        let mut desk = held_by_4();
+        desk.arbiter.put(Claim { seq: 8, site: 3 });
+        for (from, seq) in [(2, 9), (2, 7), (5, 10)] {
+            let sent = |version| {
+                let mut turn = Turn::new(version, 1, &MEMBERS, &desk);
+                turn.receive(from, Body::Request { seq });
+                turn.finish().1
+            };
+            let mut expected = sent(Version::Present);
+            for message in &mut expected {
+                if let Body::Fail { seq } = &mut message.body {
+                    assert!(seq.take().is_some());
+                }
+            }
+            assert_eq!(sent(Version::Earlier), expected);
+        }
     }
 
     #[test]
@@ -533,7 +574,8 @@ mod tests {
             for body in [
                 Body::Reply { arbiter: 2, grant: 3 },
                 Body::Inquire { grant: 3 },
-                Body::Fail,
+                fail(3),
+                Body::Fail { seq: None },
                 Body::Transfer { heir: 4, grant: 3 },
             ] {
                 assert_eq!(receive(&desk, 2, body), (desk.clone(), vec![]));

@@ -8,13 +8,13 @@ use mathlib.Core.List.{List, [], _∷_, _++_}
 use native.Mathlib.Omega.{arith}
 use lib.Dec.{eqb}
 use borrow.Author.Tests.{eqb-true, eqb-false, eq-eqb, ne-eqb}
-use Rattle.basics.specs.Helpers.{update, tally}
+use Rattle.basics.specs.Helpers.{update, tally, All}
 use Rattle.protocol.specs.Ask.{Ask}
 use Rattle.protocol.specs.Message.{Message, request}
 use Rattle.protocol.specs.Setting.{Setting}
 use Rattle.protocol.specs.Local.{REST, WAITING, Local, view, withSites, withoutEntry}
 use Rattle.basics.proofs.Basics.{by-bool, clash}
-use Rattle.basics.proofs.Lists.{tally-snoc, tally-snoc-no, tally-snoc-yes, All, all-snoc}
+use Rattle.basics.proofs.Lists.{tally-snoc, tally-snoc-no, tally-snoc-yes, all-snoc}
 use Rattle.protocol.proofs.Invariant.{Ghost, HELD, carriesPermission, isRequestOf, isHandOver, situation, InquiryFits, Fits, Asks, Column, OwedIn, UnderWayIn, Core, Invariant}
 use Rattle.protocol.proofs.Sending.{ordered-snoc}
 use Rattle.protocol.proofs.Fitting.{no-request, all-mode}

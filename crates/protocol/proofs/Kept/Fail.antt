@@ -9,7 +9,7 @@ use mathlib.Core.List.{List, _∷_}
 use native.Mathlib.Omega.{arith}
 use lib.Dec.{eqb}
 use borrow.Author.Tests.{eqb-true, eqb-false, eq-eqb, ne-eqb, not-true}
-use Rattle.basics.specs.Helpers.{update, tally}
+use Rattle.basics.specs.Helpers.{update, tally, All}
 use Rattle.protocol.specs.Message.{Message, fail}
 use Rattle.protocol.specs.Setting.{Setting}
 use Rattle.protocol.specs.Local.{WAITING, Local, view, withSites}
@@ -17,8 +17,7 @@ use Rattle.protocol.specs.Arbiter.{headOf, beforeHolder}
 use Rattle.protocol.specs.Site.{answersAsk, failCounts, mustYield, onFail}
 use Rattle.protocol.specs.Rig.{asked}
 use Rattle.basics.proofs.Basics.{by-bool, clash, and-split, and-true, not-of}
-use Rattle.basics.proofs.Lists.{All}
-use Rattle.protocol.proofs.Invariant.{Ghost, FREE, HELD, isFailFor, isInquire, Ordered, Ascending, InquiryFits, Core, Invariant}
+use Rattle.protocol.proofs.Invariant.{Ghost, FREE, HELD, isInquire, Ordered, Ascending, InquiryFits, Core, Invariant}
 use Rattle.protocol.proofs.Sending.{take-quiet}
 use Rattle.protocol.proofs.Kept.Yielded.{OwedTo, OwedBut, yielded-kept, yielder-owns}
 

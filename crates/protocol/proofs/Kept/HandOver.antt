@@ -9,14 +9,14 @@ use mathlib.Core.List.{List, [], _∷_, _++_}
 use native.Mathlib.Omega.{arith}
 use lib.Dec.{eqb}
 use borrow.Author.Tests.{eqb-true, eqb-false, eq-eqb, ne-eqb}
-use Rattle.basics.specs.Helpers.{update, tally}
+use Rattle.basics.specs.Helpers.{update, tally, All}
 use Rattle.protocol.specs.Ask.{noAsk}
 use Rattle.protocol.specs.Message.{Message, handOver, inquire, transfer}
 use Rattle.protocol.specs.Setting.{Setting, SettingLaw}
 use Rattle.protocol.specs.Local.{Local, view}
 use Rattle.protocol.specs.Arbiter.{fromHolder, heldByHeir, headOf, heirTakesOver, onHandOver}
 use Rattle.basics.proofs.Basics.{by-bool, clash, and-split, update-other}
-use Rattle.basics.proofs.Lists.{All, all-map, snoc-pos, snoc-zero}
+use Rattle.basics.proofs.Lists.{all-map, snoc-pos, snoc-zero}
 use Rattle.protocol.proofs.Invariant.{FREE, ghost, isHandOver, isFailFor, isInquire, Ordered, Ascending, InquiryFits, Fits, OwedIn, Core, Invariant}
 use Rattle.protocol.proofs.Sending.{send-inquire, send-transfer}
 use Rattle.protocol.proofs.Fitting.{fix, fits-change}

@@ -9,13 +9,12 @@ use mathlib.Core.List.{List, _∷_}
 use native.Mathlib.Omega.{arith}
 use lib.Dec.{eqb}
 use borrow.Author.Tests.{eqb-true, eqb-false, eq-eqb, ne-eqb}
-use Rattle.basics.specs.Helpers.{update, tally}
+use Rattle.basics.specs.Helpers.{update, tally, All}
 use Rattle.protocol.specs.Message.{Message, inquire}
 use Rattle.protocol.specs.Setting.{Setting}
 use Rattle.protocol.specs.Local.{WAITING, Local, view, withEntries}
 use Rattle.protocol.specs.Site.{onInquire}
 use Rattle.basics.proofs.Basics.{by-bool, and-split}
-use Rattle.basics.proofs.Lists.{All}
 use Rattle.protocol.proofs.Invariant.{isInquire, Ordered, Ascending, Fits, UnderWayIn, Core, Invariant}
 use Rattle.protocol.proofs.Sending.{take-quiet}
 use Rattle.protocol.proofs.Owing.{ascending-low}

@@ -9,13 +9,13 @@ use mathlib.Core.List.{List, [], _∷_, _++_}
 use native.Mathlib.Omega.{arith}
 use lib.Dec.{eqb}
 use borrow.Author.Tests.{eqb-true, eqb-false, eq-eqb, ne-eqb}
-use Rattle.basics.specs.Helpers.{update, tally}
+use Rattle.basics.specs.Helpers.{update, tally, All}
 use Rattle.protocol.specs.Ask.{noAsk}
 use Rattle.protocol.specs.Message.{Message, reply, release, handOver}
 use Rattle.protocol.specs.Setting.{Setting, SettingLaw}
 use Rattle.protocol.specs.Local.{REST, WAITING, INSIDE, Local, view, withSites, withoutEntry}
 use Rattle.basics.proofs.Basics.{by-bool, clash, update-other}
-use Rattle.basics.proofs.Lists.{tally-snoc, tally-snoc-no, tally-snoc-yes, All, all-snoc, all-map-not}
+use Rattle.basics.proofs.Lists.{tally-snoc, tally-snoc-no, tally-snoc-yes, all-snoc, all-map-not}
 use Rattle.protocol.proofs.Asks.{same-number}
 use Rattle.protocol.proofs.Invariant.{Ghost, OUT, HELD, RELEASED, ghost, carriesPermission, isRequestOf, isHandOver, situation, InquiryFits, Fits, Column, Core, Invariant}
 use Rattle.protocol.proofs.Sending.{ordered-snoc}

@@ -8,14 +8,13 @@ use mathlib.Core.List.{List, _∷_}
 use native.Mathlib.Omega.{arith}
 use lib.Dec.{eqb}
 use borrow.Author.Tests.{eqb-true, eqb-false, eq-eqb, ne-eqb}
-use Rattle.basics.specs.Helpers.{update, tally}
+use Rattle.basics.specs.Helpers.{update, tally, All}
 use Rattle.protocol.specs.Ask.{noAsk, isNoAsk}
 use Rattle.protocol.specs.Message.{Message, release}
 use Rattle.protocol.specs.Setting.{Setting, SettingLaw}
 use Rattle.protocol.specs.Local.{Local, view}
 use Rattle.protocol.specs.Arbiter.{fromHolder, isEarly, earlyRelease, onRelease}
 use Rattle.basics.proofs.Basics.{by-bool, and-split, and-true, not-of}
-use Rattle.basics.proofs.Lists.{All}
 use Rattle.protocol.proofs.Invariant.{RELEASED, ghost, Ordered, Ascending, InquiryFits, Fits, OwedIn, Core, Invariant}
 use Rattle.protocol.proofs.Fitting.{fix}
 use Rattle.protocol.proofs.Owing.{fix-owed}

@@ -9,14 +9,14 @@ use mathlib.Core.List.{List, [], _∷_, _++_}
 use native.Mathlib.Omega.{arith}
 use lib.Dec.{eqb}
 use borrow.Author.Tests.{eqb-true, eqb-false, eq-eqb, ne-eqb}
-use Rattle.basics.specs.Helpers.{update, tally}
+use Rattle.basics.specs.Helpers.{update, tally, All}
 use Rattle.protocol.specs.Ask.{Ask, noAsk}
 use Rattle.protocol.specs.Message.{Message, request, inquire, fail, transfer}
 use Rattle.protocol.specs.Setting.{Setting, SettingLaw}
 use Rattle.protocol.specs.Local.{WAITING, Local, view, send, withArbiter}
 use Rattle.protocol.specs.Arbiter.{headOf, beforeHolder, granted, failTo, formerTold, failFormer, inquireOrFail, answers, queuedUp, onRequest}
 use Rattle.basics.proofs.Basics.{by-bool, clash, and-true, not-of, update-same, update-other, update-update}
-use Rattle.basics.proofs.Lists.{All, all-map, snoc-pos, snoc-keep, snoc-zero, snoc-none, tally-mono}
+use Rattle.basics.proofs.Lists.{all-map, snoc-pos, snoc-keep, snoc-zero, snoc-none, tally-mono}
 use Rattle.protocol.proofs.Asks.{same-number, answers-own}
 use Rattle.protocol.proofs.Invariant.{Ghost, FREE, OUT, HELD, YIELDED, RELEASED, ghost, carriesPermission, isRequestOf, isReturnOf, isHandOver, isFailFor, isInquire, Ordered, Ascending, situation, InquiryFits, Fits, Owed, OwedIn, UnderWayIn, Core, Invariant}
 use Rattle.protocol.proofs.Sending.{send-fail, send-inquire, send-transfer}

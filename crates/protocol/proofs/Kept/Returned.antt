@@ -8,14 +8,14 @@ use mathlib.Core.List.{List}
 use native.Mathlib.Omega.{arith}
 use lib.Dec.{eqb}
 use borrow.Author.Tests.{eqb-true, eqb-false}
-use Rattle.basics.specs.Helpers.{all, tally}
+use Rattle.basics.specs.Helpers.{all, tally, All}
 use Rattle.protocol.specs.Ask.{Ask, noAsk}
 use Rattle.protocol.specs.Message.{Message}
 use Rattle.protocol.specs.Setting.{Setting, SettingLaw}
 use Rattle.protocol.specs.Local.{WAITING, Local, withArbiter}
 use Rattle.protocol.specs.Rig.{requests}
 use Rattle.basics.proofs.Basics.{by-bool, clash}
-use Rattle.basics.proofs.Lists.{All, all-map-not}
+use Rattle.basics.proofs.Lists.{all-map-not}
 use Rattle.protocol.proofs.Invariant.{FREE, HELD, ghost, carriesPermission, isRequestOf, Ordered, situation, Fits, ArbiterRow, Asks, Column, Core}
 use Rattle.protocol.proofs.Fitting.{fits-change}
 

@@ -7,13 +7,12 @@ use mathlib.Core.List.{List, _∷_}
 use native.Mathlib.Omega.{arith}
 use lib.Dec.{eqb}
 use borrow.Author.Tests.{eqb-true}
-use Rattle.basics.specs.Helpers.{update, tally}
+use Rattle.basics.specs.Helpers.{update, tally, All}
 use Rattle.protocol.specs.Message.{Message, transfer}
 use Rattle.protocol.specs.Setting.{Setting, SettingLaw}
 use Rattle.protocol.specs.Local.{Local, view}
 use Rattle.protocol.specs.Site.{namesHeld, onTransfer}
 use Rattle.basics.proofs.Basics.{by-bool}
-use Rattle.basics.proofs.Lists.{All}
 use Rattle.protocol.proofs.Invariant.{Ordered, Ascending, Fits, OwedIn, UnderWayIn, Invariant}
 use Rattle.protocol.proofs.Sending.{take-quiet}
 

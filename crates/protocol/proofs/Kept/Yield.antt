@@ -8,13 +8,12 @@ use mathlib.Core.List.{List, _∷_}
 use native.Mathlib.Omega.{arith}
 use lib.Dec.{eqb}
 use borrow.Author.Tests.{eqb-true, eqb-false, eq-eqb, ne-eqb}
-use Rattle.basics.specs.Helpers.{update, tally}
+use Rattle.basics.specs.Helpers.{update, tally, All}
 use Rattle.protocol.specs.Message.{Message, yield}
 use Rattle.protocol.specs.Setting.{Setting, SettingLaw}
 use Rattle.protocol.specs.Local.{Local, view}
 use Rattle.protocol.specs.Arbiter.{fromHolder, headOf, onYield}
 use Rattle.basics.proofs.Basics.{by-bool, clash, and-true}
-use Rattle.basics.proofs.Lists.{All}
 use Rattle.protocol.proofs.Invariant.{YIELDED, ghost, Ordered, Ascending, InquiryFits, Fits, OwedIn, Core, Invariant}
 use Rattle.protocol.proofs.Fitting.{fix}
 use Rattle.protocol.proofs.Owing.{fix-owed}

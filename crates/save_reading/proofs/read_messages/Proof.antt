@@ -11,7 +11,7 @@ use lib.ListN.{length, drop}
 use Rattle.basics.proofs.Basics.{clash}
 use Rattle.rig.specs.Limits.{messageLimit}
 use Rattle.save_lines.specs.Lines.{linesIn}
-use Rattle.save_reading.proofs.Places.{behind-within}
+use Rattle.save_taking.proofs.Places.{behind-within}
 use Rattle.save_reading.proofs.Messages.{rowsSoFar, rows-long, row-more, all-rows, line-read, line-passed, more-left, none-more}
 use Rattle.save_reading.proofs.read_messages.Statement.{statement}
 use Rattle.save_reading.proofs.read_messages.Tie as tie

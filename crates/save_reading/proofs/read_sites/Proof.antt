@@ -9,9 +9,11 @@ use Rattle.rig.specs.Limits.{siteLimit}
 use Rattle.model.specs.Setup.{restingSite}
 use Rattle.save_lines.specs.Lines.{linesIn}
 use Rattle.save_text.specs.Reading.{arbiterLine, siteFrom, upTo, arrayOf}
-use Rattle.save_reading.specs.Places.{placeBehind, lineStart}
+use Rattle.save_taking.specs.Places.{placeBehind}
+use Rattle.save_taking.proofs.Places.{behind-within}
+use Rattle.save_reading.specs.Places.{lineStart}
 use Rattle.save_reading.specs.Lines.{ownTables}
-use Rattle.save_reading.proofs.Places.{behind-within, start-within}
+use Rattle.save_reading.proofs.Places.{start-within}
 use Rattle.save_reading.proofs.Turns.{behind-site, site-more, own-more}
 use Rattle.save_reading.proofs.read_sites.Statement.{statement}
 use Rattle.save_reading.proofs.read_sites.Tie as tie

@@ -2,7 +2,8 @@
 use borrow.Author.Needs.{needs}
 use denote.Ref.{now}
 use Rattle.save_text.specs.Text.{sitesField, acceptedField, fieldsIn, thisSpelling}
-use Rattle.save_writing.proofs.Puts.{fits-line, fits-behind, fits-first, fits-rest, puts-line, puts-more, messages-fit, messages-put}
+use Rattle.save_putting.proofs.Puts.{fits-line, fits-behind, fits-first, fits-rest, puts-line, puts-more}
+use Rattle.save_writing.proofs.Each.{messages-fit, messages-put}
 use Rattle.save_writing.proofs.put_lines.Statement.{statement}
 use Rattle.save_writing.proofs.put_lines.Tie as tie
 

@@ -1,0 +1,3 @@
+-- Laws of the entries of a row as numbers.
+pub mod Rows
+pub mod Values

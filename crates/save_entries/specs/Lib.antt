@@ -1,0 +1,2 @@
+-- The entries of a row as numbers, and back.
+pub mod Entries

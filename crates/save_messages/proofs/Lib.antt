@@ -1,0 +1,2 @@
+-- Laws of a message as numbers.
+pub mod Messages

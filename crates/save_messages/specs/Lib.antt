@@ -1,0 +1,2 @@
+-- A message as numbers, and back.
+pub mod Messages

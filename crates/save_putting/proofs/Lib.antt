@@ -1,0 +1,3 @@
+-- Laws of lines put one behind the other.
+pub mod Puts
+pub mod Askers
