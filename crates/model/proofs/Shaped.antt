@@ -2,7 +2,8 @@
 use Prim.Native.Nat.{ℕ, _≤_, _<_}
 use mathlib.Core.Path.{_≡_, refl}
 use mathlib.Core.Logic.{_≢_, ⊎-elim}
-use mathlib.Core.Bool.{true, false}
+use mathlib.Core.Bool.{Bool, true, false}
+use mathlib.Core.List.{List}
 use native.Mathlib.Omega.{arith}
 use lib.Dec.{eqb, leb}
 use borrow.Author.Tests.{eqb-true, eqb-false, ne-eqb, leb-true, leb-false, le-leb}
@@ -13,8 +14,8 @@ use Rattle.rig.specs.Messages.{REQUEST, REPLY, RELEASE, INQUIRE, FAIL, YIELD, T
 use Rattle.rig.specs.Limits.{siteLimit, messageLimit, eventLimit, numberLimit, SiteNumber}
 use Rattle.model.specs.Tables.{at, cell}
 use Rattle.model.specs.Setup.{setupCode}
-use Rattle.model.specs.State.{Tables, Stored, underWay, sizeOf, setsOf, inRange, hasMember, siteOf, arbiterOf, heldOf}
-use Rattle.model.specs.Shape.{isNumber, setShaped, modeShaped, siteShaped, arbiterShaped, placeShaped, rigShaped, entryShaped, ownShaped, everywhere, numberShaped, plainShaped, releaseShaped, aboutShaped, messageShaped, messagesShaped, tablesShaped, wellShaped}
+use Rattle.model.specs.State.{Tables, Stored, underWay, sizeOf, setsOf, inRange, hasMember, siteOf, arbiterOf, heldOf, queuedOf}
+use Rattle.model.specs.Shape.{isNumber, setShaped, modeShaped, siteShaped, arbiterShaped, placeShaped, rigShaped, entryShaped, ownShaped, heirShaped, queuedShaped, everywhere, numberShaped, plainShaped, releaseShaped, aboutShaped, messageShaped, messagesShaped, tablesShaped, wellShaped}
 use Rattle.model.proofs.Tables.{at-past}
 use Rattle.model.proofs.Setup.{Accepted, accepts}
 use Rattle.model.proofs.Lawful.{site-within, tie-within}
@@ -39,6 +40,7 @@ pub record Shaped (s : Stored) : Type 0 where
   pub accepted : s .tables .rig .accepted ≤ eventLimit
   pub places : (k : ℕ) → SiteNumber k → placeShaped (s .tables .rig) k ≡ true
   pub held : everywhere (ownShaped (setsOf (s .tables))) (s .tables .held) ≡ true
+  pub queued : everywhere (queuedShaped (setsOf (s .tables))) (s .tables .queued) ≡ true
   pub messages : messagesShaped (sizeOf (s .tables)) (setsOf (s .tables)) (underWay s) ≡ true
 
 -- the set of a site past N
@@ -60,6 +62,8 @@ shaped s e =
     let c = and-split (rigShaped (t .rig)) _ (b .0) in
     let d = and-split (eqb (setupCode (sizeOf t) (setsOf t)) 0) _ (c .0) in
     let f = and-split (leb (t .rig .accepted) eventLimit) _ (d .1) in
+    let g = and-split (everywhere (ownShaped (setsOf t)) (t .held)) _ (c .1) in
+    let h = and-split (everywhere (heirShaped (setsOf t)) (t .heir)) _ (g .1) in
     let acc = accepts (sizeOf t) (setsOf t) (eqb-true _ 0 (d .0)) in
     let places : (k : ℕ) → SiteNumber k → placeShaped (t .rig) k ≡ true = λ k r. all-at (placeShaped (t .rig)) siteLimit k (f .1) (r .low) (r .high) in
     record {
@@ -68,7 +72,8 @@ shaped s e =
       past = none-past t acc places;
       accepted = leb-true (t .rig .accepted) eventLimit (f .0);
       places = places;
-      held = and-split (everywhere (ownShaped (setsOf t)) (t .held)) _ (c .1) .0;
+      held = g .0;
+      queued = and-split (everywhere (ownShaped (setsOf t)) (t .inquired)) _ (h .1) .1;
       messages = b .1;
     }
 
@@ -81,6 +86,17 @@ in-range n k a b = rw (le-leb 1 k a, le-leb k n b)
 number : (n : ℕ) → isNumber n ≡ true → n ≤ numberLimit
 unfolding isNumber
 number n e = leb-true n numberLimit e
+
+-- an entry of a table whose entries are numbers, and 0 where there is no tie
+entry-number : (p : ℕ → ℕ → ℕ → Bool) (tie : ℕ → ℕ → Bool) (table : List (List ℕ)) → ((a b n : ℕ) → p a b n ≡ entryShaped (tie a b) n) → everywhere p table ≡ true
+    → (a b : ℕ) → SiteNumber a → SiteNumber b → cell table a b ≤ numberLimit
+unfolding everywhere entryShaped
+entry-number p tie table same e a b i j =
+    let row = all-at (λ x. all (λ y. p x y (cell table x y)) siteLimit) siteLimit a e (i .low) (i .high) in
+    let entry = all-at (λ y. p a y (cell table a y)) siteLimit b row (j .low) (j .high) in
+    by-bool (tie a b)
+    (λ c. number _ (rw (same a b (cell table a b), c) at entry))
+    (λ c. let z = eqb-true (cell table a b) 0 (rw (same a b (cell table a b), c) at entry) in omega arith)
 
 module _ (s : Stored) (h : Shaped s) where
   abbrev t : Tables
@@ -118,14 +134,12 @@ module _ (s : Stored) (h : Shaped s) where
       number _ (and-split (isNumber (arbiterOf t j .grant)) _ b .0)
 
   pub held-number : (k j : ℕ) → inRange (sizeOf t) k ≡ true → SiteNumber j → heldOf t k j ≤ numberLimit
-  unfolding everywhere ownShaped entryShaped
-  held-number k j e i =
-      let r = listed k e in
-      let a = all-at (λ x. all (λ y. ownShaped (setsOf t) x y (cell (t .held) x y)) siteLimit) siteLimit k (h .held) (r .low) (r .high) in
-      let b = all-at (λ y. ownShaped (setsOf t) k y (cell (t .held) k y)) siteLimit j a (i .low) (i .high) in
-      by-bool (hasMember (setsOf t) k j)
-      (λ c. number _ (rw c at b))
-      (λ c. let z = eqb-true (heldOf t k j) 0 (rw c at b) in omega arith)
+  unfolding ownShaped
+  held-number k j e i = entry-number (ownShaped (setsOf t)) (hasMember (setsOf t)) (t .held) (λ a b n. refl) (h .held) k j (listed k e) i
+
+  pub queued-number : (j k : ℕ) → inRange (sizeOf t) j ≡ true → SiteNumber k → queuedOf t j k ≤ numberLimit
+  unfolding queuedShaped
+  queued-number j k e i = entry-number (queuedShaped (setsOf t)) (λ a b. hasMember (setsOf t) b a) (t .queued) (λ a b n. refl) (h .queued) j k (listed j e) i
 
   -- A message under way.
   module _ (m : Message) (e : messageShaped (sizeOf t) (setsOf t) m ≡ true) where

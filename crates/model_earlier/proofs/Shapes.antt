@@ -6,15 +6,15 @@ use mathlib.Core.List.{List, [], _∷_}
 use native.Mathlib.Omega.{arith}
 use lib.Dec.{eqb, leb}
 use borrow.Author.Tests.{eqb-true, leb-true}
-use Rattle.basics.specs.Helpers.{all, All}
-use Rattle.basics.proofs.Basics.{by-bool, and-split, all-at}
+use Rattle.basics.specs.Helpers.{All}
+use Rattle.basics.proofs.Basics.{by-bool, and-split}
 use Rattle.rig.specs.declared.Message.{Message}
-use Rattle.rig.specs.Limits.{siteLimit, messageLimit, numberLimit, SiteNumber}
+use Rattle.rig.specs.Limits.{siteLimit, messageLimit, numberLimit}
 use Rattle.rig.specs.Messages.{REQUEST, FAIL}
 use Rattle.model.specs.Tables.{at, cell}
-use Rattle.model.specs.State.{Tables, Stored, underWay, sizeOf, setsOf, inRange, hasMember, queuedOf, deskOf}
-use Rattle.model.specs.Shape.{isNumber, isGiven, rigShaped, entryShaped, ownShaped, heirShaped, queuedShaped, everywhere, numberShaped, messageShaped, messagesShaped, tablesShaped, wellShaped}
-use Rattle.model.proofs.Shaped.{shaped, listed}
+use Rattle.model.specs.State.{Stored, underWay, sizeOf, setsOf, inRange, queuedOf, deskOf}
+use Rattle.model.specs.Shape.{isNumber, isGiven, numberShaped, messageShaped, messagesShaped, tablesShaped, wellShaped}
+use Rattle.model.proofs.Shaped.{shaped, queued-number}
 use Rattle.model.specs.Losses.{unnumbered}
 use Rattle.model_earlier.specs.Rules as Earlier
 use Rattle.model_earlier.specs.Claims.{EarlierShaped}
@@ -71,24 +71,12 @@ request-number n sets m e k =
     let c = and-split (numberShaped m) _ b .0 in
     leb-true (m .number) numberLimit (and-split (leb 1 (m .number)) _ (rw k at c) .1)
 
-queued-small : (t : Tables) → tablesShaped t ≡ true → (j : ℕ) → SiteNumber j → (k : ℕ) → k ≤ siteLimit → queuedOf t j k ≤ numberLimit
-unfolding tablesShaped everywhere cell queuedShaped entryShaped isNumber at
-queued-small t w j r zero h = omega arith
-queued-small t w j r (suc i) h =
-    let a = and-split (rigShaped (t .rig)) _ w .1 in
-    let b = and-split (everywhere (ownShaped (setsOf t)) (t .held)) _ a .1 in
-    let c = and-split (everywhere (heirShaped (setsOf t)) (t .heir)) _ b .1 in
-    let d = and-split (everywhere (ownShaped (setsOf t)) (t .inquired)) _ c .1 in
-    let row = all-at (λ x. all (λ y. queuedShaped (setsOf t) x y (queuedOf t x y)) siteLimit) siteLimit j d (r .low) (r .high) in
-    let e = all-at (λ y. queuedShaped (setsOf t) j y (queuedOf t j y)) siteLimit (suc i) row (omega arith) h in
-    by-bool (hasMember (setsOf t) (suc i) j)
-    (λ m. leb-true (queuedOf t j (suc i)) numberLimit (rw m at e))
-    (λ m. let z = eqb-true (queuedOf t j (suc i)) 0 (rw m at e) in omega arith)
-
 pub desk-bounded : (s : Stored) → wellShaped s ≡ true → (k : ℕ) → inRange (sizeOf (s .tables)) k ≡ true → Bounded (deskOf (s .tables) k)
-unfolding wellShaped deskOf cell
+unfolding deskOf cell at
 desk-bounded s w k i =
-    let t = s .tables in
     let h = shaped s w in
-    let tables = and-split (tablesShaped t) _ (and-split (leb (s .count) messageLimit) _ w .1) .0 in
-    record { size = h .sets .high; queued = queued-small t tables k (listed s h k i) }
+    record { size = h .sets .high; queued = queued }
+  where
+    queued : (x : ℕ) → x ≤ siteLimit → queuedOf (s .tables) k x ≤ numberLimit
+    queued zero l = omega arith
+    queued (suc x) l = queued-number s (shaped s w) k (suc x) i (record { low = omega arith; high = l })

@@ -94,8 +94,7 @@ module _ (s : Stored) (w : wellShaped s ≡ true) (rows : QueueRows (s .tables))
       let shape = first-shaped (sizeOf t) (setsOf t) a k ms m (h .messages) e .0 in
       let from = ends s h m shape .0 in
       let row = rows k (listed s h k i) in
-      let less = tally-without (between a k) isNumberless ms m e in
-      (
+      let less = tally-without (between a k) isNumberless ms m e in (
         by-bool (isNumberless m) (λ b. let l = rw b at less in omega arith) (λ b. let l = rw b at less in omega arith),
         delivered-sends Numbered others (deskOf t k) m (λ kind. fails _ (m .from) (m .number) (from .low) (omega (arith, from .high, row)) (request-given (sizeOf t) (setsOf t) m shape kind)),
       )
