@@ -1,21 +1,19 @@
--- What demand 3 of a state says of its holders, what holds of its first message, and a run in two lists.
+-- What demand 3 of a state says of its holders, and what holds of its first message.
 use Prim.Native.Nat.{ℕ, _≤_}
-use mathlib.Core.Path.{_≡_, refl}
+use mathlib.Core.Path.{_≡_}
 use mathlib.Core.Logic.{_≢_}
 use mathlib.Core.Bool.{true, not}
-use mathlib.Core.List.{List, [], _∷_, _++_}
+use mathlib.Core.List.{List, _∷_}
 use native.Mathlib.Omega.{arith}
 use lib.Dec.{eqb, leb}
 use borrow.Author.Tests.{eq-eqb, ne-eqb, leb-true}
 use Rattle.basics.proofs.Basics.{and-split, not-of, count-unique}
-use Rattle.rig.specs.declared.Event.{Event}
 use Rattle.rig.specs.declared.Message.{Message}
 use Rattle.rig.specs.Messages.{REPLY}
 use Rattle.model.specs.State.{Tables, Stored, inRange, heldOf, deskOf}
 use Rattle.model.specs.Site.{takes}
 use Rattle.model.specs.Always.{fitsRule, allFit}
-use Rattle.model.specs.Event.{event}
-use Rattle.model.specs.Run.{run, heldAt, places, Sound}
+use Rattle.model.specs.Run.{heldAt, places, Sound}
 use Rattle.client_claims.specs.Claims.{IsSite}
 
 site : (n k : ℕ) → inRange n k ≡ true → (1 ≤ k) × (k ≤ n)
@@ -34,8 +32,3 @@ one-holder s d j k l h a b e g =
 pub reply-fits : (t : Tables) (m : Message) (ms : List Message) → allFit t (m ∷ ms) ≡ true → m .kind ≡ REPLY → takes (deskOf t (m .to)) (m .about) ≡ true
 unfolding allFit fitsRule
 reply-fits t m ms fit e = rw (eq-eqb (m .kind) REPLY e) at (and-split (fitsRule t m) (allFit t ms) fit .0)
-
-pub run-then : (es : List Event) (s : Stored) (ds : List Event) → run s (es ++ ds) ≡ run (run s es) ds
-unfolding run
-run-then [] s ds = refl
-run-then (e ∷ es) s ds = run-then es (event s e .next) ds

@@ -4,19 +4,21 @@ use mathlib.Core.Path.{_≡_}
 use mathlib.Core.Logic.{_⊎_, _≢_}
 use mathlib.Core.Bool.{true}
 use mathlib.Core.List.{List, [], _∷_, _++_}
+use mathlib.Core.Option.{some}
 use lib.ListN.{length}
 use Rattle.rig.specs.declared.Event.{Event}
-use Rattle.rig.specs.declared.Event.the-variants.{Deliver}
+use Rattle.rig.specs.declared.Event.the-variants.{Ask, Deliver}
 use Rattle.rig.specs.declared.Message.{Message}
 use Rattle.rig.specs.Limits.{messageLimit, eventLimit}
-use Rattle.rig.specs.Messages.{REPLY}
-use Rattle.basics.specs.Helpers.{tally}
+use Rattle.rig.specs.Messages.{REPLY, FAIL}
+use Rattle.basics.specs.Helpers.{tally, first, All}
 use Rattle.model.specs.Setup.{setupCode}
-use Rattle.model.specs.State.{Stored, underWay, inRange, siteOf, arbiterOf, heldOf, deskOf}
+use Rattle.model.specs.State.{Stored, underWay, inRange, seqIn, siteOf, modeOf, arbiterOf, heldOf, deskOf}
 use Rattle.model.specs.Site.{takes}
 use Rattle.model.specs.Deliver.{between}
 use Rattle.model.specs.Event.{event}
 use Rattle.model.specs.Run.{fresh, run, insideCount, waitingCount, Always}
+use Rattle.model.specs.Fails.{AsksWith}
 use Rattle.model.specs.Settling.{isDelivery, isTurn, acceptedOf, measureLimit, onlyLimits}
 use Rattle.player_text.specs.Player.{start, output}
 use Rattle.player_parts.specs.Parts.{written}
@@ -64,6 +66,20 @@ unfoldable pub DeliveriesServe : Type 0
 DeliveriesServe =
     (n : ℕ) (sets : List ℕ) (list : List Message) (es ds : List Event) → setupCode n sets ≡ 0 → length list ≡ messageLimit →
     tally isTurn ds ≡ 0 → Serves (run (fresh n sets list) es) ds
+
+-- no fail of a run is numbered 0
+unfoldable pub FailsGiven : Type 0
+FailsGiven = Always (λ s. All (λ m. m .kind ≡ FAIL → 1 ≤ m .number) (underWay s))
+
+-- a fail for an ask that is over leaves its site's mode: a later ask, its number and its failed mark
+unfoldable pub LaterAskKept : Type 0
+LaterAskKept =
+    (n : ℕ) (sets : List ℕ) (list : List Message) (earlier es later : List Event) (k x : ℕ) → setupCode n sets ≡ 0 →
+    AsksWith (fresh n sets list) earlier k x → seqIn (modeOf (run (fresh n sets list) (earlier ++ Ask k ∷ es) .tables) k) ≡ 0 →
+    (a : ℕ) (m : Message) →
+    let s = run (fresh n sets list) (earlier ++ Ask k ∷ (es ++ later)) in
+    first (between a k) (underWay s) ≡ some m → m .kind ≡ FAIL → m .number ≡ x → event s (Deliver a k) .code ≡ 0 →
+    modeOf (event s (Deliver a k) .next .tables) k ≡ modeOf (s .tables) k
 
 -- a text cut once prints what the whole text prints
 unfoldable pub CutOnce : Type 0

@@ -1,6 +1,6 @@
 // Callers of the functions whose contracts are the claims: what they promise follows from those contracts alone. Each answers 0.
 ghost use mathlib.Core.Path.{_≡_};
-ghost use Rattle.client_claims.specs.Claims.{OneHolder, CodesOfRuns, NumbersOfRuns, ReplyTaken, DeliveriesServe, CutOnce};
+ghost use Rattle.client_claims.specs.Claims.{OneHolder, CodesOfRuns, NumbersOfRuns, ReplyTaken, DeliveriesServe, FailsGiven, LaterAskKept, CutOnce};
 
 // Demand 3: who holds an arbiter's permission.
 pub fn holders() -> u8
@@ -23,6 +23,13 @@ pub fn deliveries() -> u8
 {
     model::settles();
     model::beyond()
+}
+
+// Request 2.3: fails and the asks that they answer.
+pub fn fails() -> u8
+    ensures { λ r. ⌜ (r ≡ 0) × FailsGiven × LaterAskKept ⌝ }
+{
+    model::fails_name_asks()
 }
 
 // A text in two parts.

@@ -5,9 +5,9 @@ use borrow.Author.Needs.{needs}
 use Rattle.model.specs.Run.{fresh, run}
 use Rattle.model.specs.Always.{AlwaysShaped}
 use Rattle.model.specs.Settling.{DeliveriesEnd, MeasureBounded, Deliverable, SettledServes}
+use Rattle.model.proofs.Reached.{run-append}
 use Rattle.model.proofs.Codes.{run-long}
 use Rattle.client_claims.specs.Claims.{DeliveriesServe}
-use Rattle.client_claims.proofs.Runs.{run-then}
 use Rattle.client_claims.proofs.deliveries.Statement.{statement}
 use Rattle.client_claims.proofs.deliveries.Tie as tie
 use Rattle.model.proofs.beyond.Reads as beyond-reads
@@ -29,7 +29,7 @@ returns c =
           let f = fresh n sets list in
           let s = run f es in
           let shaped = b .1 n sets list es p .0 in
-          let then = run-then es f ds in
+          let then = run-append f es ds in
           record {
             few = omega (arith, d .2 s ds none, d .4 s shaped);
             settled = rw then at (d .7 n sets list (es ++ ds) p);
