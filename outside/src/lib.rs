@@ -4,7 +4,7 @@
 //!   families of request sets, one event, and the player of texts.
 //! * [`schedule`], [`rigs`], [`texts`] and [`damage`] make texts to play.
 //! * [`compare`] plays each text with the model and with another player and
-//!   compares every byte; [`measure`] times both.
+//!   compares every byte; [`measure`] times the model and one or two players.
 //! * [`plan`] is the program that prints a family's sets, [`calls`] are words
 //!   to call it with, and [`plan_compare`] compares another one.
 //! * [`saved`] writes and reads the text of a state, [`state`] is the program

@@ -7,7 +7,7 @@ use std::process::ExitCode;
 use std::time::{Duration, SystemTime};
 
 use outside::compare::{compare, Plan};
-use outside::measure::measure;
+use outside::measure::{measure, Program};
 use outside::model::{play_by, Family, Version};
 use outside::options::Options;
 use outside::plan_compare::compare_calls;
@@ -24,9 +24,12 @@ outside play FILE|- [--earlier]
 outside plan PROGRAM [--script] [--timeout T]
 outside state PROGRAM [--script] [--seed S] [--rounds R] [--jobs J] [--no-spent]
                       [--no-misshapen] [--timeout T] [--folder F]
-outside generate --family grid:3|billiard:7|plane:5|levels:2,3,5|full:31
-                 --events K [--seed S] [--swell]
-outside measure PLAYER_BINARY [--events K] [--rounds R] [--seed S] ";
+outside generate --family grid:3|billiard:7|plane:5|levels:2,3,5|full:31|arbiter:31
+                 --events K [--seed S] [--swell]";
+
+const MEASURE_USAGE: &str = "\
+outside measure PLAYER_BINARY [OTHER_BINARY] [--events K] [--rounds R] [--seed S]
+                              [--family F]";
 
 fn main() -> ExitCode {
     let mut words = std::env::args().skip(1);
@@ -39,7 +42,7 @@ fn main() -> ExitCode {
         "state" => state_command(options),
         "generate" => generate_command(options),
         "measure" => measure_command(options),
-        _ => Err(format!("usage:\n{USAGE}")),
+        _ => Err(format!("usage:\n{USAGE}\n{MEASURE_USAGE}")),
     };
     match outcome {
         Ok(true) => ExitCode::SUCCESS,
@@ -137,30 +140,50 @@ fn generate_command(mut options: Options) -> Result<bool, String> {
     let seed = options.value("--seed")?.unwrap_or(1);
     let swell = options.flag("--swell");
     options.finish()?;
-    let lists = lists(&name).ok_or(format!("{name:?} is no family with a listed parameter"))?;
+    let lists = lists(&name)?;
     let random = Random::new(seed);
     let schedule = if swell { Schedule::swelling(random) } else { Schedule::busy(random) };
     let mut out = BufWriter::new(io::stdout().lock());
     written(write_text(&lists, schedule, events, &mut out).and_then(|()| out.flush()))
 }
 
+/// Without `--family`, the rigs on which request 2.4 is measured.
 fn measure_command(mut options: Options) -> Result<bool, String> {
     let events = options.value("--events")?.unwrap_or(1_000_000);
-    let rounds = options.value("--rounds")?.unwrap_or(3);
+    let rounds = options.value("--rounds")?.unwrap_or(9);
     let seed = options.value("--seed")?.unwrap_or(1);
-    let binary = options.word("the player's file")?;
+    let names = match options.value("--family")? {
+        Some(name) => vec![name],
+        None => ["plane:5", "grid:5", "arbiter:31"].map(String::from).to_vec(),
+    };
+    let player = options.word("the player's file");
+    let player = player.map_err(|problem| format!("{problem}, usage:\n{MEASURE_USAGE}"))?;
+    let other = options.word("another player's file").ok();
     options.finish()?;
-    let subject = Subject::new(Path::new(&binary), Duration::MAX)?;
-    measure(&subject, events, rounds, seed)
+    let file = |name: String| fs::canonicalize(&name).map_err(|error| format!("{name}: {error}"));
+    let mut programs = vec![Program { name: "player", file: file(player)?, words: &[] }];
+    if let Some(other) = other {
+        programs.push(Program { name: "other", file: file(other)?, words: &[] });
+    }
+    let own = std::env::current_exe().map_err(|error| error.to_string())?;
+    programs.push(Program { name: "model", file: own, words: &["play", "-"] });
+    let rigs = names.into_iter().map(|name| lists(&name).map(|lists| (name, lists)));
+    measure(&programs, &rigs.collect::<Result<Vec<_>, _>>()?, events, rounds, seed)
 }
 
 /// Request sets by name: `grid:3`, `billiard:7`, `plane:5`, `levels:2,3,5`;
-/// also `full:31`, where every set has all sites.
-fn lists(name: &str) -> Option<Lists> {
+/// also `full:31`, where every set has all sites, and `arbiter:31`, where every
+/// set has site 1 alone.
+fn lists(name: &str) -> Result<Lists, String> {
+    named(name).ok_or(format!("{name:?} is no family with a listed parameter"))
+}
+
+fn named(name: &str) -> Option<Lists> {
     let (kind, parameters) = name.split_once(':')?;
     let parameters: Vec<u64> = parameters.split(',').map(|word| word.parse().ok()).collect::<Option<_>>()?;
     match (kind, &parameters[..]) {
         ("full", &[n @ 1..=31]) => Some(rigs::full(n as usize)),
+        ("arbiter", &[n @ 1..=31]) => Some(rigs::one_arbiter(n as usize)),
         _ => Family::named(kind.as_bytes(), &parameters)?.lists().ok(),
     }
 }

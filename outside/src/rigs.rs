@@ -78,6 +78,11 @@ pub fn full(n: usize) -> Lists {
     vec![(1..=n as Site).collect(); n]
 }
 
+/// Every set has site 1 alone, the one arbiter.
+pub fn one_arbiter(n: usize) -> Lists {
+    vec![vec![1]; n]
+}
+
 /// Every set has more than half of the sites.
 pub fn majorities(random: &mut Random, n: usize) -> Lists {
     (0..n)

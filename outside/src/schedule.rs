@@ -323,11 +323,13 @@ mod tests {
 
     #[test]
     fn most_events_are_accepted() {
-        let lists = Family::Plane(5).lists().unwrap();
-        let text = text(&lists, Schedule::busy(Random::new(2)), 20_000);
-        let output = crate::model::play(&text);
-        let accepted = String::from_utf8(output).unwrap().matches(" code=0 ").count();
-        assert!(accepted > 19_000, "{accepted}");
+        let families = [Family::Plane(5), Family::Grid(5)].map(|family| family.lists().unwrap());
+        for lists in families.into_iter().chain([rigs::one_arbiter(31)]) {
+            let text = text(&lists, Schedule::busy(Random::new(2)), 20_000);
+            let output = crate::model::play(&text);
+            let accepted = String::from_utf8(output).unwrap().matches(" code=0 ").count();
+            assert!(accepted > 19_000, "{accepted}");
+        }
     }
 
     #[test]

@@ -1,6 +1,6 @@
 -- Small laws of tests, tables and counts that the proofs share.
 use Prim.Native.Nat.{ℕ, zero, suc, _+_, _≤_, _<_}
-use mathlib.Core.Path.{_≡_, refl, sym, fun-ext}
+use mathlib.Core.Path.{_≡_, refl, sym, ap, fun-ext}
 use mathlib.Core.Logic.{_⊎_, inl, inr, ⊎-elim, _≢_}
 use mathlib.Core.Bool.{Bool, true, false, not, _&&_, _||_}
 use native.Mathlib.Omega.{arith}
@@ -125,6 +125,11 @@ any-of p (suc n) k a b e =
 pub any-none : (p : ℕ → Bool) (n : ℕ) → ((k : ℕ) → 1 ≤ k → k ≤ n → p k ≡ false) → any p n ≡ false
 any-none p n h = by-bool (any p n) (λ t. let w = any-at p n t in clash (p (w .0)) (w .3) (h (w .0) (w .1) (w .2))) (λ t. t)
 
+pub lowest-none : (p : ℕ → Bool) (n : ℕ) → ((k : ℕ) → 1 ≤ k → k ≤ n → p k ≡ false) → lowest p n ≡ 0
+unfolding lowest
+lowest-none p zero h = refl
+lowest-none p (suc n) h = rw (lowest-none p n (λ k f g. h k f (omega arith)), h (suc n) (omega arith) (omega arith))
+
 -- one more that fails, as a loop's turn has it
 pub lowest-more : (p : ℕ → Bool) (i : ℕ) → lowest p i ≡ 0 → p (suc i) ≡ false → lowest p (i + 1) ≡ 0
 unfolding lowest
@@ -158,6 +163,30 @@ all-lowest p (suc n) =
     (by-bool (eqb (lowest (λ k. not (p k)) n) 0)
     (λ z. by-bool (p (suc n)) (λ t. rw (z, t)) (λ t. rw (z, t) (sym (ne-eqb (suc n) 0 (λ w. omega arith)))))
     (λ z. rw z (sym z)))
+
+pub count-same : (p q : ℕ → Bool) (n : ℕ) → ((k : ℕ) → 1 ≤ k → k ≤ n → p k ≡ q k) → count p n ≡ count q n
+unfolding count
+count-same p q zero h = refl
+count-same p q (suc n) h = rw (count-same p q n (λ k f g. h k f (omega arith)), h (suc n) (omega arith) (omega arith))
+
+-- one more passes, j, and the others as before
+pub count-without :
+    (p q : ℕ → Bool) (n j : ℕ)
+    → 1 ≤ j → j ≤ n → p j ≡ false → q j ≡ true
+    → ((k : ℕ) → 1 ≤ k → k ≢ j → p k ≡ q k)
+    → suc (count p n) ≡ count q n
+unfolding count
+count-without p q zero j f g a b h = absurd (omega arith)
+count-without p q (suc n) j f g a b h =
+    by-bool (eqb j (suc n))
+    (λ e.
+    let w = eqb-true j (suc n) e in
+    rw (rw w at a, rw w at b) (ap suc (count-same p q n (λ k x y. h k x (λ z. omega arith)))))
+    (λ e.
+    let ne = eqb-false j (suc n) e in
+    let less = count-without p q n j f (omega arith) a b h in
+    rw (h (suc n) (omega arith) (λ z. ne (sym z)))
+    (by-bool (q (suc n)) (λ t. rw t (ap suc less)) (λ t. rw t less)))
 
 pub count-none : (f : ℕ → Bool) (n : ℕ) → ((k : ℕ) → f k ≡ false) → count f n ≡ 0
 unfolding count

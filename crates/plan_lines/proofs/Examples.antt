@@ -4,7 +4,8 @@ use mathlib.Core.Path.{_≡_, refl}
 use Rattle.model.specs.Sets.{member}
 use Rattle.model.specs.Tables.{at}
 use Rattle.player_bytes.specs.Decimal.{digits, decimal}
-use Rattle.plan_lines.specs.Lines.{membersUpTo, listText, sitesText, setText, setTexts, setupText, codeText}
+use Rattle.rig_members.specs.Walk.{membersUpTo}
+use Rattle.plan_lines.specs.Lines.{listText, sitesText, setText, setTexts, setupText, codeText}
 
 -- the sites 1, 2 and 4: `set=1,2,4`
 set-11 : setText 11 ≡ 115 ∷ 101 ∷ 116 ∷ 61 ∷ 49 ∷ 44 ∷ 50 ∷ 44 ∷ 52 ∷ 10 ∷ []

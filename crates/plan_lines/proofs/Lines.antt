@@ -1,6 +1,6 @@
 -- The lines of sets: how they grow, member by member and set by set, and how long they are.
 use Prim.Native.Nat.{ℕ, zero, suc, _+_, _*_, _-_, _/_, _≤_, _<_}
-use mathlib.Core.Bool.{cond}
+use mathlib.Core.Bool.{true, cond}
 use mathlib.Core.List.{List, [], _∷_, _++_, append-assoc, append-nil}
 use mathlib.Core.Logic.{_≢_}
 use mathlib.Core.Path.{_≡_, refl, sym}
@@ -18,7 +18,8 @@ use Rattle.player_bytes.specs.Wrote.{Wrote}
 use Rattle.player_bytes.proofs.Digits.{one-digit, longer, some-digit}
 use Rattle.player_bytes.proofs.Stores.{wrote-more}
 use Rattle.player_grammar.specs.Grammar.{lineLimit}
-use Rattle.plan_lines.specs.Lines.{membersUpTo, listText, setBytes, setText, setTexts}
+use Rattle.rig_members.specs.Walk.{membersUpTo}
+use Rattle.plan_lines.specs.Lines.{listText, setBytes, setText, setTexts}
 
 -- a number has one digit at least, and below 100 at most two
 decimal-some : (n : ℕ) → 1 ≤ length (decimal n)
@@ -68,10 +69,11 @@ members-more set i next first h =
 
 pub wrote-member :
     (set i : ℕ) {next first r : ℕ} {page mid after : List ℕ}
+    → member set (suc i) ≡ true
     → Wrote (listText (membersUpTo set i)) first page mid next
-    → Wrote (cond (member set (suc i)) (added next first (suc i)) []) next mid after r
+    → Wrote (added next first (suc i)) next mid after r
     → Wrote (listText (membersUpTo set (suc i))) first page after r
-wrote-member set i {next} {first} a b = rw (members-more set i next first (a .behind)) (wrote-more a b)
+wrote-member set i {next} {first} e a b = rw (members-more set i next first (a .behind), e) (wrote-more a b)
 
 -- three bytes for each site at most, and no comma before the first member
 added-short : (written m i : ℕ) → m < 100 → written ≤ 3 * i - 1 → written + length (added written 0 m) ≤ 3 * suc i - 1

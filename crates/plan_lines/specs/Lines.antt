@@ -1,21 +1,15 @@
 -- Request 2.1, "a program that prints a family": its lines as bytes, "`sites=N` and the N lines `set=` just as the player reads them".
 use Prim.Native.Nat.{ℕ, zero, suc}
-use mathlib.Core.Bool.{cond}
 use mathlib.Core.List.{List, [], _∷_, _++_}
 use Rattle.rig.specs.Limits.{siteLimit}
 use Rattle.model.specs.Tables.{at}
-use Rattle.model.specs.Sets.{member}
+use Rattle.rig_members.specs.Walk.{membersUpTo}
 use Rattle.player_bytes.specs.Decimal.{decimal}
 use Rattle.player_grammar.specs.Grammar.{sitesWord, setWord}
 
 -- the room that the inner calls ask for a line: 97 bytes at most, where a number may take 20
 abbrev pub lineRoom : ℕ
 lineRoom = 128
-
--- the members of a set among the sites 1 to n, ascending
-unfoldable pub membersUpTo : ℕ → ℕ → List ℕ
-membersUpTo set zero = []
-membersUpTo set (suc i) = membersUpTo set i ++ cond (member set (suc i)) (suc i ∷ []) []
 
 -- "A list is a number, or a number, a comma and a list": in decimal, with commas (byte 44)
 unfoldable pub listText : List ℕ → List ℕ

@@ -3,9 +3,12 @@ use player_bytes::put_decimal;
 use player_bytes::put_field;
 use player_bytes::put_word;
 use rig::Rig;
-use rig_reads::is_member;
+use rig_members::lowest_member;
+use rig_members::members_within;
+use rig_members::without_member;
 ghost use Prim.Native.Nat.{_+_, _*_, _≤_};
-ghost use mathlib.Core.Bool.{cond};
+ghost use mathlib.Core.Bool.{true, cond};
+ghost use mathlib.Core.Path.{_≡_};
 ghost use mathlib.Core.List.{[], _∷_, _++_};
 ghost use lib.Dec.{eqb};
 ghost use lib.ListN.{length};
@@ -31,18 +34,15 @@ fn field_line(page: &mut [u8], word: &[u8], n: u64) -> usize
     put_word(page, end, b"\n")
 }
 
-// One turn of `set_line`: site m, where the set has it, behind the members below it, which start at `first`; answers the place behind it.
-fn put_member(page: &mut [u8], first: usize, next: usize, set: u64, m: u64) -> usize
-    requires { ⌜ next + 21 ≤ length (now page) ⌝ }
-    ensures { λ r. ⌜ Wrote (cond (member set m) (cond (eqb next first) (decimal m) (44 ∷ decimal m)) []) next (now (page .entry)) (now (page .exit)) r ⌝ }
+// One turn of `set_line`: j, a member of the set, behind the members below it, which start at `first`; answers the place behind it.
+fn put_member(page: &mut [u8], first: usize, next: usize, set: u64, j: u64) -> usize
+    requires { ⌜ (member set j ≡ true) × (next + 21 ≤ length (now page)) ⌝ }
+    ensures { λ r. ⌜ Wrote (cond (eqb next first) (decimal j) (44 ∷ decimal j)) next (now (page .entry)) (now (page .exit)) r ⌝ }
 {
-    if !is_member(set, m) {
-        return next;
-    }
     if next == first {
-        return put_decimal(page, next, m);
+        return put_decimal(page, next, j);
     }
-    put_field(page, next, b",", m)
+    put_field(page, next, b",", j)
 }
 
 // The line of a set, from place `at` on; answers the place behind it.
@@ -52,8 +52,11 @@ fn set_line(page: &mut [u8], at: usize, set: u64) -> usize
 {
     let first = put_word(page, at, b"set=");
     let mut next = first;
-    for i in 0..Rig::SITES {
-        next = put_member(page, first, next, set, i as u64 + 1);
+    let mut left = members_within(Rig::SITES as u64, set);
+    while left != 0 {
+        let j = lowest_member(left);
+        next = put_member(page, first, next, set, j);
+        left = without_member(left, j);
     }
     put_word(page, next, b"\n")
 }

@@ -23,7 +23,8 @@ use Rattle.player_bytes.proofs.Digits.{decimal-length}
 use Rattle.player_grammar.specs.Grammar.{longer, parts, before, allNumbers, numbers, ascends, siteBit, withSites, setLine, starts, form, lineLimit, meaningOf}
 use Rattle.player_grammar.specs.declared.Line.the-variants.{Sites, Set}
 use Rattle.player_grammar.proofs.Lists.{oneOf, one-number}
-use Rattle.plan_lines.specs.Lines.{membersUpTo, listText, sitesBytes, setBytes}
+use Rattle.rig_members.specs.Walk.{membersUpTo}
+use Rattle.plan_lines.specs.Lines.{listText, sitesBytes, setBytes}
 use Rattle.plan_lines.proofs.Lines.{set-bytes-short}
 use Rattle.plan_read_back.specs.ReadBack.{SitesRead, SetRead}
 use Rattle.plan_read_back.proofs.Numbers.{Lacks, decimal-lacks, number-read}

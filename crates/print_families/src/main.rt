@@ -6,6 +6,11 @@
 use families::Family;
 use libc::STDOUT_FILENO;
 use rig::Rig;
+use rig_members::lowest_member;
+use rig_members::without_member;
+ghost use mathlib.Core.Bool.{true};
+ghost use mathlib.Core.Path.{_≡_};
+ghost use Rattle.model.specs.Sets.{member};
 
 fn main() {
     print_grids();
@@ -96,20 +101,22 @@ fn print_site(family: Family, site: u64, set: u64) {
 
 // The members, ascending, with commas between them.
 fn print_members(set: u64) {
-    let mut printed = false;
-    for m in 0u64..64 {
-        if (set >> m) % 2 == 1 {
-            print_member(printed, m + 1);
-            printed = true;
-        }
+    let mut left = set;
+    while left != 0 {
+        let j = lowest_member(left);
+        print_member(set, j, left != set);
+        left = without_member(left, j);
     }
 }
 
-fn print_member(after_another: bool, member: u64) {
+// One turn: j, a member of the set.
+fn print_member(set: u64, j: u64, after_another: bool)
+    requires { ⌜ member set j ≡ true ⌝ }
+{
     if after_another {
         io::write_all(STDOUT_FILENO, b",");
     }
-    io::print_decimal(STDOUT_FILENO, member);
+    io::print_decimal(STDOUT_FILENO, j);
 }
 
 // As `grid s=0 entries=31 code=12`.

@@ -9,7 +9,7 @@ use lib.ListN.{length, take, replicate, length-append}
 use lib.Seq.{take-suc, take-all, getD-at}
 use borrow.Author.Tests.{eqb-true, eqb-false}
 use Rattle.basics.specs.Helpers.{count, All}
-use Rattle.basics.proofs.Basics.{by-bool}
+use Rattle.basics.proofs.Basics.{by-bool, count-same}
 use Rattle.basics.proofs.Lists.{all-append}
 use Rattle.rig.specs.Limits.{siteLimit}
 use Rattle.model.specs.Tables.{at}
@@ -66,11 +66,6 @@ entries-bound b p row h = entries-all (λ n. n ≤ b) p row siteLimit h
 -- Two tests that agree on the sites.
 
 module _ (p q : ℕ → Bool) where
-  count-same : (n : ℕ) → ((i : ℕ) → 1 ≤ i → i ≤ n → p i ≡ q i) → count p n ≡ count q n
-  unfolding count
-  count-same zero h = refl
-  count-same (suc n) h = rw (count-same n (λ i a b. h i a (omega arith)), h (suc n) (omega arith) (omega arith))
-
   entries-agree : (row : List ℕ) (n : ℕ) → ((i : ℕ) → 1 ≤ i → i ≤ n → p i ≡ q i) → entriesUpTo p row n ≡ entriesUpTo q row n
   unfolding entriesUpTo
   entries-agree row zero h = refl
@@ -81,7 +76,7 @@ module _ (p q : ℕ → Bool) where
   row-agree ns zero h = refl
   row-agree ns (suc n) h =
       let below : (i : ℕ) → 1 ≤ i → i ≤ n → p i ≡ q i = λ i a b. h i a (omega arith) in
-      rw (row-agree ns n below, h (suc n) (omega arith) (omega arith), count-same n below)
+      rw (row-agree ns n below, h (suc n) (omega arith) (omega arith), count-same p q n below)
 
   pub entries-same : (row : List ℕ) → ((i : ℕ) → 1 ≤ i → i ≤ siteLimit → p i ≡ q i) → entries p row ≡ entries q row
   unfolding entries

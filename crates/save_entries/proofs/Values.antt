@@ -1,6 +1,6 @@
--- How the numbers of a line and the entries of a row grow in an array of zeros, site by site.
-use Prim.Native.Nat.{ℕ, zero, suc, _+_, _-_, _≤_, _<_}
-use mathlib.Core.Bool.{Bool, cond}
+-- How the numbers of a line and the entries of a row grow in an array of zeros, member by member.
+use Prim.Native.Nat.{ℕ, zero, suc, _+_, _-_, _<_}
+use mathlib.Core.Bool.{Bool, true, false}
 use mathlib.Core.List.{List, [], _∷_, _++_, append-assoc, append-nil}
 use mathlib.Core.Path.{_≡_, refl, _∙_}
 use native.Mathlib.Numerals.{add-one}
@@ -8,12 +8,10 @@ use native.Mathlib.Omega.{arith}
 use lib.ListN.{length, set, replicate, length-append}
 use lib.Seq.{set-at}
 use Rattle.basics.specs.Helpers.{count}
-use Rattle.basics.proofs.Basics.{by-bool}
 use Rattle.rig.specs.Limits.{siteLimit}
-use Rattle.model.specs.Sets.{member}
-use Rattle.plan_lines.specs.Lines.{membersUpTo}
+use Rattle.model.specs.Tables.{at}
 use Rattle.save_fields.specs.Fields.{nth}
-use Rattle.save_entries.specs.Entries.{rowUpTo}
+use Rattle.save_entries.specs.Entries.{entriesUpTo, rowUpTo}
 use Rattle.save_fields.specs.Values.{paddedNumbers}
 
 -- zeros behind n places, of which the first is taken
@@ -24,39 +22,38 @@ zero-first n h = let e : siteLimit - n ≡ suc (siteLimit - suc n) = omega arith
 abbrev pub IsLine : List ℕ → List ℕ → ℕ → Type 0
 IsLine ns numbers n = (numbers ≡ paddedNumbers ns) × (n ≡ length ns)
 
-module _ (ns : List ℕ) (h : length ns < siteLimit) (test : Bool) (n : ℕ) where
-  padded-more : cond test (set (paddedNumbers ns) (length ns) n) (paddedNumbers ns) ≡ paddedNumbers (ns ++ cond test (n ∷ []) [])
-  padded-more =
-      by-bool test
-      (λ e.
-      let l : length (ns ++ n ∷ []) ≡ suc (length ns) = length-append ns (n ∷ []) ∙ omega arith in
-      rw (e, l, zero-first (length ns) h, append-assoc) (set-at ns 0 _ n (length ns) refl))
-      (λ e. rw (e, append-nil))
+-- one more number, as a turn puts it
+pub line-more :
+    (ns : List ℕ) (n : ℕ) {numbers after : List ℕ} {m : ℕ}
+    → length ns < siteLimit
+    → IsLine ns numbers m
+    → after ≡ set numbers m n
+    → IsLine (ns ++ (n ∷ [])) after (m + 1)
+line-more ns n h l a =
+    let longer : length (ns ++ (n ∷ [])) ≡ suc (length ns) = length-append ns (n ∷ []) ∙ omega arith in
+    (a ∙ rw (l .0, l .1, longer, zero-first (length ns) h, append-assoc) (set-at ns 0 _ n (length ns) refl), rw (l .1, longer, add-one))
 
-  count-more : cond test (length ns + 1) (length ns) ≡ length (ns ++ cond test (n ∷ []) [])
-  count-more = by-bool test (λ e. rw (e, length-append)) (λ e. rw (e, append-nil))
+-- The entries of a row.
 
-  -- one more number where a test passes, as a loop's turn has it
-  pub line-more :
-      {here : Bool} {numbers after : List ℕ} {m next : ℕ}
-      → IsLine ns numbers m
-      → here ≡ test
-      → after ≡ cond here (set numbers m n) numbers
-      → next ≡ cond here (m + 1) m
-      → IsLine (ns ++ cond test (n ∷ []) []) after next
-  line-more l e a b = (a ∙ rw (e, l .0, l .1) padded-more, b ∙ rw (e, l .1) count-more)
+module _ (p : ℕ → Bool) (row : List ℕ) (i : ℕ) where
+  pub entries-idle : p (suc i) ≡ false → entriesUpTo p row (suc i) ≡ entriesUpTo p row i
+  unfolding entriesUpTo
+  entries-idle e = rw (e, append-nil)
 
--- no more members than sites
-pub members-few : (set n : ℕ) → length (membersUpTo set n) ≤ n
-unfolding membersUpTo
-members-few set zero = omega arith
-members-few set (suc n) =
-    let l = members-few set n in
-    by-bool (member set (suc n))
-    (λ e. rw (e, length-append) (omega arith))
-    (λ e. rw (e, append-nil) (omega arith))
+  pub entries-more : p (suc i) ≡ true → entriesUpTo p row (suc i) ≡ entriesUpTo p row i ++ (at 0 row (suc i) ∷ [])
+  unfolding entriesUpTo
+  entries-more e = rw e
 
 -- A row.
+
+module _ (p : ℕ → Bool) where
+  pub count-idle : (i : ℕ) → p (suc i) ≡ false → count p (suc i) ≡ count p i
+  unfolding count
+  count-idle i e = rw e
+
+  pub count-more : (i : ℕ) → p (suc i) ≡ true → count p (suc i) ≡ suc (count p i)
+  unfolding count
+  count-more i e = rw e
 
 module _ (p : ℕ → Bool) (ns : List ℕ) where
   row-long : (n : ℕ) → length (rowUpTo p ns n) ≡ n
@@ -64,23 +61,14 @@ module _ (p : ℕ → Bool) (ns : List ℕ) where
   row-long zero = refl
   row-long (suc n) = let l = row-long n in rw length-append (omega arith)
 
-  -- an array with a row as far as site n, 0 behind it, and how many of its sites pass
-  abbrev pub IsRow : ℕ → List ℕ → ℕ → Type 0
-  IsRow n row m = (row ≡ rowUpTo p ns n ++ replicate (siteLimit - n) 0) × (m ≡ count p n)
+  -- a row as far as site n, and 0 behind it
+  unfoldable pub rowSoFar : ℕ → List ℕ
+  rowSoFar n = rowUpTo p ns n ++ replicate (siteLimit - n) 0
 
-  pub row-more :
-      (i : ℕ) {here : Bool} {row after : List ℕ} {m next : ℕ}
-      → i < siteLimit
-      → IsRow i row m
-      → here ≡ p (suc i)
-      → after ≡ cond here (set row i (nth ns m)) row
-      → next ≡ cond here (m + 1) m
-      → IsRow (suc i) after next
-  unfolding rowUpTo count
-  row-more i h l e a b = (
-    a ∙ rw (e, l .0, l .1, zero-first i h, append-assoc)
-        (by-bool (p (suc i))
-        (λ t. rw t (set-at (rowUpTo p ns i) 0 _ _ i (row-long i)))
-        (λ t. rw t)),
-    b ∙ rw (e, l .1, add-one),
-  )
+  pub row-idle : (i : ℕ) → i < siteLimit → p (suc i) ≡ false → rowSoFar (suc i) ≡ rowSoFar i
+  unfolding rowSoFar rowUpTo
+  row-idle i h e = rw (e, zero-first i h, append-assoc)
+
+  pub row-more : (i : ℕ) → i < siteLimit → p (suc i) ≡ true → set (rowSoFar i) i (nth ns (count p i)) ≡ rowSoFar (suc i)
+  unfolding rowSoFar rowUpTo
+  row-more i h e = rw (e, zero-first i h, append-assoc) (set-at (rowUpTo p ns i) 0 _ _ i (row-long i))

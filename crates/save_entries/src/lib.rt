@@ -1,34 +1,28 @@
 // The entries of a row at the members of a set as the numbers of a line, and back.
 use rig::Rig;
+use rig_members::lowest_member;
+use rig_members::members_within;
+use rig_members::without_member;
 use rig_reads::is_member;
 use save_fields::Numbers;
 use save_fields::Value;
 ghost use Prim.Native.Nat.{_+_, _^_, _<_};
-ghost use mathlib.Core.Bool.{cond};
+ghost use mathlib.Core.Bool.{true, cond};
 ghost use mathlib.Core.Path.{_≡_};
 ghost use lib.ListN.{set};
 ghost use Rattle.rig.specs.Limits.{siteLimit};
 ghost use Rattle.model.specs.Sets.{member, setOf};
 ghost use Rattle.model.specs.State.{hasMember};
-ghost use Rattle.plan_lines.specs.Lines.{membersUpTo};
+ghost use Rattle.rig_members.specs.Walk.{membersUpTo};
 ghost use Rattle.save_fields.specs.Values.{valueOf};
 ghost use Rattle.save_entries.specs.Entries.{entries, rowFrom};
 
-// One turn of the loops below: puts n at a place where a site is one of those that are asked for, and counts it.
-fn put_if(here: bool, numbers: &mut Numbers, place: usize, n: u64)
-    requires { ⌜ place < siteLimit ⌝ }
-    ensures { λ _. ⌜ now (numbers .exit) ≡ cond here (set (now (numbers .entry)) place n) (now (numbers .entry)) ⌝ }
+// One turn of the three walks below: for j, a member of the set, n goes to a place.
+fn put_number(members: u64, j: u64, numbers: &mut Numbers, place: usize, n: u64)
+    requires { ⌜ (member members j ≡ true) × (place < siteLimit) ⌝ }
+    ensures { λ _. ⌜ now (numbers .exit) ≡ set (now (numbers .entry)) place n ⌝ }
 {
-    if here {
-        numbers[place] = n;
-    }
-}
-
-fn count_if(here: bool, count: usize) -> usize
-    requires { ⌜ count < siteLimit ⌝ }
-    ensures { λ r. ⌜ r ≡ cond here (count + 1) count ⌝ }
-{
-    if here { count + 1 } else { count }
+    numbers[place] = n;
 }
 
 // The entries of a row at the members of a set, ascending.
@@ -37,10 +31,12 @@ pub fn entries_value(set: u64, row: &Numbers) -> Value
 {
     let mut numbers = [0; Rig::SITES];
     let mut count = 0;
-    for i in 0..Rig::SITES {
-        let here = is_member(set, i as u64 + 1);
-        put_if(here, &mut numbers, count, row[i]);
-        count = count_if(here, count);
+    let mut left = members_within(Rig::SITES as u64, set);
+    while left != 0 {
+        let j = lowest_member(left);
+        put_number(set, j, &mut numbers, count, row[(j - 1) as usize]);
+        count = count + 1;
+        left = without_member(left, j);
     }
     Value {
         numbers: numbers,
@@ -54,10 +50,12 @@ pub fn members_value(set: u64) -> Value
 {
     let mut numbers = [0; Rig::SITES];
     let mut count = 0;
-    for i in 0..Rig::SITES {
-        let here = is_member(set, i as u64 + 1);
-        put_if(here, &mut numbers, count, i as u64 + 1);
-        count = count_if(here, count);
+    let mut left = members_within(Rig::SITES as u64, set);
+    while left != 0 {
+        let j = lowest_member(left);
+        put_number(set, j, &mut numbers, count, j);
+        count = count + 1;
+        left = without_member(left, j);
     }
     Value {
         numbers: numbers,
@@ -71,10 +69,12 @@ pub fn row_from(set: u64, ns: &Numbers) -> Numbers
 {
     let mut row = [0; Rig::SITES];
     let mut next = 0;
-    for i in 0..Rig::SITES {
-        let here = is_member(set, i as u64 + 1);
-        put_if(here, &mut row, i, ns[next]);
-        next = count_if(here, next);
+    let mut left = members_within(Rig::SITES as u64, set);
+    while left != 0 {
+        let j = lowest_member(left);
+        put_number(set, j, &mut row, (j - 1) as usize, ns[next]);
+        next = next + 1;
+        left = without_member(left, j);
     }
     row
 }

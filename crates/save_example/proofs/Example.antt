@@ -23,7 +23,8 @@ use Rattle.model.specs.Shape.{isNumber, isGiven, setShaped, modeShaped, siteBla
 use Rattle.model.specs.Event.{actor, sitesNamed, takenOff, attempt, attempted, numbersUpTo, numbersFit, limitCode, blankMessage, padded, acceptedState, judged, eventAt, settled, played, tested, event}
 use Rattle.model.specs.Run.{fresh, run}
 use Rattle.player_bytes.specs.Decimal.{digits, decimal}
-use Rattle.plan_lines.specs.Lines.{membersUpTo, listText}
+use Rattle.rig_members.specs.Walk.{membersUpTo}
+use Rattle.plan_lines.specs.Lines.{listText}
 use Rattle.save_lines.specs.Lines.{fieldText, fieldsText}
 use Rattle.save_fields.specs.Fields.{modeNumbers, holderNumbers}
 use Rattle.save_entries.specs.Entries.{entriesUpTo, entries}

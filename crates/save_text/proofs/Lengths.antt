@@ -12,7 +12,8 @@ use Rattle.rig.specs.Limits.{siteLimit}
 use Rattle.model.specs.Sets.{member}
 use Rattle.model.specs.Tables.{at}
 use Rattle.player_bytes.specs.Decimal.{digits, decimal}
-use Rattle.plan_lines.specs.Lines.{membersUpTo, listText}
+use Rattle.rig_members.specs.Walk.{membersUpTo}
+use Rattle.plan_lines.specs.Lines.{listText}
 use Rattle.save_lines.specs.Lines.{Field, field, fieldText, fieldsText}
 use Rattle.save_entries.specs.Entries.{entriesUpTo}
 use Rattle.save_text.specs.Text.{eachUpTo}

@@ -25,7 +25,8 @@ use Rattle.model.proofs.Lawful.{no-members}
 use Rattle.model.proofs.Shaped.{Shaped, shaped, ties, about-high}
 use Rattle.player_bytes.specs.Same.{same}
 use Rattle.player_text.specs.Player.{sizeIn, setIn}
-use Rattle.plan_lines.specs.Lines.{membersUpTo, listText}
+use Rattle.rig_members.specs.Walk.{membersUpTo}
+use Rattle.plan_lines.specs.Lines.{listText}
 use Rattle.plan_read_back.proofs.Lines.{sites-read, set-read, members-within}
 use Rattle.save_lines.specs.Lines.{Field, field, linesIn, numbersIn}
 use Rattle.save_lines.proofs.Fields.{PlainWord, plainBytes, PlainField, lineOf, lines-of-fields, numbers-of-field}
@@ -34,7 +35,7 @@ use Rattle.save_entries.specs.Entries.{entries, rowFrom}
 use Rattle.save_messages.specs.Messages.{messageNumbers, messageFrom}
 use Rattle.save_entries.proofs.Rows.{entries-short, entries-bound, row-back-within}
 use Rattle.save_fields.proofs.Fields.{mode-back, mode-short, mode-bound, arbiter-back, holder-short, holder-bound}
-use Rattle.save_entries.proofs.Values.{members-few}
+use Rattle.rig_members.proofs.Visits.{members-few}
 use Rattle.save_messages.proofs.Messages.{message-back, message-short, message-bound, from-high, to-high, number-high, kind-high, about-none}
 use Rattle.save_text.specs.Text.{clockWord, modeWord, heldWord, heirWord, inquiredWord, grantWord, holderWord, queuedWord, messageWord, eachUpTo, sitesField, setField, acceptedField, fieldsIn, textIn, siteFields, arbiterFields, messageField, thisSpelling, textOf}
 use Rattle.save_text.specs.Reading.{lineAt, numbersAt, siteLine, arbiterLine, messageLine, sizeFrom, setFrom, arrayOf, siteFrom, arbiterAt, ownRow, queueRow, tablesOf, setsFrom, messagesFrom, stateFrom, isTextOf, accepts, readText}

@@ -10,7 +10,7 @@ use Rattle.rig.specs.Messages.{FAIL}
 use Rattle.model.specs.Tables.{at}
 use Rattle.model.specs.State.{Tables, Stored, underWay, sizeOf, setsOf, hasMember, siteOf, arbiterOf}
 use Rattle.player_grammar.specs.Grammar.{sitesWord, setWord}
-use Rattle.plan_lines.specs.Lines.{membersUpTo}
+use Rattle.rig_members.specs.Walk.{membersUpTo}
 use Rattle.save_lines.specs.Lines.{Field, field, fieldsText}
 use Rattle.save_fields.specs.Fields.{modeNumbers, holderNumbers}
 use Rattle.save_entries.specs.Entries.{entries}

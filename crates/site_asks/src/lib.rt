@@ -5,25 +5,28 @@ use rig::Desk;
 use rig::Message;
 use rig::Mode;
 use rig::Site;
-use rig_reads::is_member;
+use rig_members::lowest_member;
+use rig_members::members_within;
+use rig_members::without_member;
 use site_entries::cleared;
 ghost use Prim.Native.Nat.{_<_};
+ghost use mathlib.Core.Bool.{true};
+ghost use mathlib.Core.List.{[], _∷_};
+ghost use mathlib.Core.Path.{_≡_};
 ghost use lib.ListN.{length};
+ghost use Rattle.rig.specs.Messages.{request};
+ghost use Rattle.model.specs.Sets.{member};
 ghost use Rattle.model.specs.Ask.{requests, asked};
 ghost use Rattle.list_rows.specs.Rows.{Appends};
 ghost use Rattle.event_effects.specs.Effects.{CarriesOut};
 ghost use Rattle.site_asks.specs.Needs.{AskFits};
-ghost use Rattle.site_asks.specs.Turns.{requestIf};
 
-// One turn of the ask: the request to site j, if it is in the set.
+// One turn of the ask: the request to j, a member of the set.
 fn request_member(number: u64, set: u64, seq: u64, j: u64, out: &mut [Row], count: usize) -> usize
-    requires { ⌜ count < length (now out) ⌝ }
-    ensures { λ r. ⌜ Appends (requestIf number set seq j) count (now (out .entry)) (now (out .exit)) r ⌝ }
+    requires { ⌜ (member set j ≡ true) × (count < length (now out)) ⌝ }
+    ensures { λ r. ⌜ Appends (request number j seq ∷ []) count (now (out .entry)) (now (out .exit)) r ⌝ }
 {
-    if is_member(set, j) {
-        return list_rows::append(out, count, Message::request(number, j, seq));
-    }
-    count
+    list_rows::append(out, count, Message::request(number, j, seq))
 }
 
 // The requests to the members, ascending.
@@ -31,9 +34,12 @@ fn request_members(d: Desk, seq: u64, out: &mut [Row], count: usize) -> usize
     requires { ⌜ AskFits d count (now out) ⌝ }
     ensures { λ r. ⌜ Appends (requests d seq (d .size)) count (now (out .entry)) (now (out .exit)) r ⌝ }
 {
+    let mut left = members_within(d.size, d.members);
     let mut n = count;
-    for m in 0..d.size {
-        n = request_member(d.number, d.members, seq, m + 1, out, n);
+    while left != 0 {
+        let j = lowest_member(left);
+        n = request_member(d.number, d.members, seq, j, out, n);
+        left = without_member(left, j);
     }
     n
 }

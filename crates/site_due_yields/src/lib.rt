@@ -3,7 +3,7 @@ use list_rows::Row;
 use rig::Message;
 use rig::Rig;
 ghost use mathlib.Core.Path.{_≡_};
-ghost use mathlib.Core.Bool.{not, _&&_};
+ghost use mathlib.Core.Bool.{true, not, _&&_};
 ghost use Prim.Native.Nat.{_<_, _+_};
 ghost use lib.Dec.{eqb};
 ghost use lib.ListN.{length};
@@ -11,14 +11,14 @@ ghost use Rattle.model.specs.Sets.{member};
 ghost use Rattle.rig.specs.Limits.{siteLimit};
 ghost use Rattle.site_due_yields.specs.Entries.{before, after, YieldsIf};
 
-// Site j is a member that is held with a remembered inquire: g is the number held, q the inquire's.
-fn must_yield(members: u64, j: u64, g: u64, q: u64) -> bool
-    ensures { λ r. ⌜ r ≡ member members j && (not (eqb g 0) && not (eqb q 0)) ⌝ }
+// A member is held with a remembered inquire: g is the number held, q the inquire's.
+fn must_yield(g: u64, q: u64) -> bool
+    ensures { λ r. ⌜ r ≡ not (eqb g 0) && not (eqb q 0) ⌝ }
 {
-    rig_reads::is_member(members, j) && (g != 0 && q != 0)
+    g != 0 && q != 0
 }
 
-// An inner call: one turn over a site's members: site i + 1, whose entries stand at index i, is yielded if it must be.
+// An inner call: one turn over a site's members: member i + 1, whose entries stand at index i, is yielded if it must be.
 pub fn yield_if(
     number: u64,
     members: u64,
@@ -29,12 +29,12 @@ pub fn yield_if(
     out: &mut [Row],
     count: usize,
 ) -> usize
-    requires { ⌜ (i < siteLimit) × (count < length (now out)) ⌝ }
+    requires { ⌜ (member members (i + 1) ≡ true) × (i < siteLimit) × (count < length (now out)) ⌝ }
     ensures { λ r. ⌜ YieldsIf number members (i + 1) (before held heir inquired) (after held heir inquired) count (now (out .entry)) (now (out .exit)) r ⌝ }
 {
     let j = i as u64 + 1;
     let g = held[i];
-    if !must_yield(members, j, g, inquired[i]) {
+    if !must_yield(g, inquired[i]) {
         return count;
     }
     held[i] = 0;

@@ -5,12 +5,17 @@ use rig::Desk;
 use rig::Message;
 use rig::Mode;
 use rig::Site;
-use rig_reads::is_member;
+use rig_members::lowest_member;
+use rig_members::members_within;
+use rig_members::without_member;
 use site_entries::cleared;
 ghost use Prim.Native.Nat.{_≤_, _+_};
+ghost use mathlib.Core.Bool.{true};
+ghost use mathlib.Core.Path.{_≡_};
 ghost use lib.ListN.{length};
 ghost use Rattle.rig.specs.Limits.{numberLimit};
 ghost use Rattle.model.specs.Leave.{handOn, handOns, left};
+ghost use Rattle.model.specs.Sets.{member};
 ghost use Rattle.list_rows.specs.Rows.{Appends};
 ghost use Rattle.event_effects.specs.Effects.{CarriesOut};
 ghost use Rattle.site_leaves.specs.Needs.{LeaveFits};
@@ -28,7 +33,7 @@ fn hand_on(number: u64, j: u64, k: u64, g: u64, out: &mut [Row], count: usize) -
     list_rows::append(out, n, Message::release(number, j, k, g))
 }
 
-// One turn of the leave: what is sent on for arbiter j, if it is in the set and held.
+// One turn of the leave: what is sent on for j, a member of the set, if it is held.
 fn hand_on_member(
     number: u64,
     set: u64,
@@ -38,12 +43,9 @@ fn hand_on_member(
     out: &mut [Row],
     count: usize,
 ) -> usize
-    requires { ⌜ (g ≤ numberLimit) × (count + 2 ≤ length (now out)) ⌝ }
-    ensures { λ r. ⌜ Appends (handOnIf number set j k g) count (now (out .entry)) (now (out .exit)) r ⌝ }
+    requires { ⌜ (member set j ≡ true) × (g ≤ numberLimit) × (count + 2 ≤ length (now out)) ⌝ }
+    ensures { λ r. ⌜ Appends (handOnIf number j k g) count (now (out .entry)) (now (out .exit)) r ⌝ }
 {
-    if !is_member(set, j) {
-        return count;
-    }
     if g == 0 {
         return count;
     }
@@ -55,11 +57,15 @@ fn hand_on_members(d: Desk, out: &mut [Row], count: usize) -> usize
     requires { ⌜ LeaveFits d count (now out) ⌝ }
     ensures { λ r. ⌜ Appends (handOns d (d .size)) count (now (out .entry)) (now (out .exit)) r ⌝ }
 {
+    let mut left = members_within(d.size, d.members);
     let mut n = count;
-    for i in 0..d.size {
-        let k = d.heir[i as usize];
-        let g = d.held[i as usize];
-        n = hand_on_member(d.number, d.members, i + 1, k, g, out, n);
+    while left != 0 {
+        let j = lowest_member(left);
+        let i = (j - 1) as usize;
+        let k = d.heir[i];
+        let g = d.held[i];
+        n = hand_on_member(d.number, d.members, j, k, g, out, n);
+        left = without_member(left, j);
     }
     n
 }

@@ -1,7 +1,8 @@
--- What is done without a message, and what is done one thing after another.
-use Prim.Native.Nat.{ℕ, zero, suc, _≤_}
-use mathlib.Core.Path.{_≡_}
-use mathlib.Core.List.{List, []}
+-- What is done without a message, what is done one thing after another, and that nothing is done for a site outside the set.
+use Prim.Native.Nat.{ℕ, zero, suc, _≤_, _<_}
+use mathlib.Core.Bool.{false}
+use mathlib.Core.Path.{_≡_, refl, ap, _∙_}
+use mathlib.Core.List.{List, [], append-nil}
 use native.Mathlib.Omega.{arith}
 use lib.ListN.{length, length-append}
 use Rattle.rig.specs.declared.Desk.{Desk}
@@ -10,7 +11,8 @@ use Rattle.event_effects.specs.Effects.{CarriesOut}
 use Rattle.event_effects.proofs.Effects.{sent-none, sent-more, carries-sent}
 use Rattle.basics.proofs.Basics.{by-bool}
 use Rattle.model.specs.Desk.{Effect, effect}
-use Rattle.model.specs.Site.{yielded, mustYield, yieldedIf, yieldedUpTo, andThen}
+use Rattle.model.specs.Sets.{member}
+use Rattle.model.specs.Site.{failedSet, yielded, mustYield, yieldedIf, yieldedUpTo, andThen}
 
 -- the desk changes and nothing is sent
 pub did-only : {d e : Desk} (n : ℕ) (rows : List (List ℕ)) → d ≡ e → CarriesOut (effect e []) n rows rows (record { desk = d; count = n })
@@ -36,3 +38,23 @@ up-to-short d (suc i) =
     let h = up-to-short d i in
     let g = if-short (yieldedUpTo d i .desk) (suc i) in
     simp length-append (omega arith)
+
+-- nothing is done for a site outside the set
+if-members : (d : Desk) (j : ℕ) → yieldedIf d j .desk .members ≡ d .members
+unfolding yieldedIf yielded failedSet
+if-members d j = by-bool (mustYield d j) (λ e. rw e) (λ e. rw e)
+
+up-to-members : (d : Desk) (i : ℕ) → yieldedUpTo d i .desk .members ≡ d .members
+unfolding yieldedUpTo
+up-to-members d zero = refl
+up-to-members d (suc i) = if-members (yieldedUpTo d i .desk) (suc i) ∙ up-to-members d i
+
+if-outside : (d : Desk) (j : ℕ) → member (d .members) j ≡ false → yieldedIf d j ≡ effect d []
+unfolding yieldedIf mustYield
+if-outside d j e = rw e
+
+pub up-to-idle : (d : Desk) (i : ℕ) → i < d .size → member (d .members) (suc i) ≡ false → yieldedUpTo (failedSet d) (suc i) ≡ yieldedUpTo (failedSet d) i
+unfolding yieldedUpTo failedSet
+up-to-idle d i h e =
+    let own = up-to-members (failedSet d) i in
+    rw (if-outside (yieldedUpTo (failedSet d) i .desk) (suc i) (ap (λ s. member s (suc i)) own ∙ e), append-nil)

@@ -3,6 +3,9 @@ use event_effects::Acted;
 use list_rows::Row;
 use rig::Desk;
 use rig::Message;
+use rig_members::lowest_member;
+use rig_members::members_within;
+use rig_members::without_member;
 use site_due_yields::yield_if;
 ghost use Prim.Native.Nat.{_<_, _≤_, _+_};
 ghost use lib.ListN.{length};
@@ -33,18 +36,21 @@ pub fn yield_members(d: Desk, out: &mut [Row], count: usize) -> Acted
     let mut held = d.held;
     let mut heir = d.heir;
     let mut inquired = d.inquired;
+    let mut left = members_within(d.size, d.members);
     let mut n = count;
-    for i in 0..d.size {
+    while left != 0 {
+        let j = lowest_member(left);
         n = yield_if(
             d.number,
             d.members,
             &mut held,
             &mut heir,
             &mut inquired,
-            i as usize,
+            (j - 1) as usize,
             out,
             n,
         );
+        left = without_member(left, j);
     }
     let mut e = site_entries::failed_set(d);
     e.held = held;

@@ -1,35 +1,34 @@
--- `print_members` is safe and ends. The loop's invariant: m is at most 64.
-use Prim.Native.Nat.{_≤_, _-_}
+-- `print_members` is safe and ends, with a turn for each member at most.
+use native.Mathlib.Omega.{arith}
 use borrow.Author.Needs.{needs}
+use Rattle.rig_members.specs.Walk.{wordBits}
+use Rattle.rig_members.proofs.Walk.{membersLeft, Walk, walk-whole, turn, turn-again, turn-less}
 use Rattle.print_families.proofs.print_members.Statement.{statement}
 use Rattle.print_families.proofs.print_members.Tie as tie
 
 abbrev Inv-loop : tie.InvT-loop
-Inv-loop set printed₀ m₀ printed m = m ≤ 64
+Inv-loop set left₀ left = Walk wordBits set left
 
 abbrev μ-loop : tie.MeasureT-loop
-μ-loop set printed₀ m₀ printed m = 64 - m
+μ-loop set left₀ left = membersLeft wordBits left
 
 loop-holds : tie.Need-loop-holds Inv-loop μ-loop
-loop-holds c = search needs
+loop-holds c = walk-whole (c .args .set) (omega arith)
 
-shr-if1 : tie.Need-shr-if1 Inv-loop μ-loop
-shr-if1 c = search needs
-
-add-print-member : tie.Need-add-print-member Inv-loop μ-loop
-add-print-member c = search needs
+lowest-member-requires : tie.Need-lowest-member-requires Inv-loop μ-loop
+lowest-member-requires c κs = search needs
 
 print-member-requires : tie.Need-print-member-requires Inv-loop μ-loop
-print-member-requires c κs = search needs
+print-member-requires c κs = turn (c .before .before .loop .inv) (omega arith) (c .lowest-member .ensures) .visits
 
-add-m : tie.Need-add-m Inv-loop μ-loop
-add-m c = search needs
+without-member-requires : tie.Need-without-member-requires Inv-loop μ-loop
+without-member-requires c κs = turn (c .before .before .before .loop .inv) (omega arith) (c .before .lowest-member .ensures) .takes
 
 loop-less : tie.Need-loop-less Inv-loop μ-loop
-loop-less c = search needs
+loop-less c = turn-less (turn (c .before .before .before .before .loop .inv) (omega arith) (c .before .before .lowest-member .ensures)) (c .without-member .ensures)
 
 loop-again : tie.Need-loop-again Inv-loop μ-loop
-loop-again c = search needs
+loop-again c = turn-again (turn (c .before .before .before .before .loop .inv) (omega arith) (c .before .before .lowest-member .ensures)) (c .without-member .ensures)
 
 returns : tie.Need-returns Inv-loop μ-loop
 returns c = search needs
@@ -37,14 +36,4 @@ returns c = search needs
 pub print-members-spec : {M : Type 1} → statement M
 print-members-spec =
     tie.close
-    (tie.spec
-    Inv-loop
-    μ-loop
-    loop-holds
-    shr-if1
-    add-print-member
-    print-member-requires
-    add-m
-    loop-less
-    loop-again
-    returns)
+    (tie.spec Inv-loop μ-loop loop-holds lowest-member-requires print-member-requires without-member-requires loop-less loop-again returns)

@@ -2,7 +2,8 @@
 use mathlib.Core.Path.{sym}
 use native.Mathlib.Omega.{arith}
 use Rattle.model.specs.Sets.{member}
-use Rattle.rig_reads.proofs.Members.{member-past, member-bit}
+use Rattle.rig_members.proofs.Members.{member-past}
+use Rattle.rig_reads.proofs.Members.{member-bit}
 use borrow.Author.Needs.{needs}
 use Rattle.rig_reads.proofs.is_member.Statement.{statement}
 use Rattle.rig_reads.proofs.is_member.Tie as tie
@@ -12,7 +13,7 @@ unfolding member
 returns c = rw (c .if1 .taken)
 
 returns-2 : tie.Need-returns-2
-returns-2 c = let a = c .before .before .args in sym (member-past (a .set) (a .j) (omega arith) (omega arith))
+returns-2 c = let a = c .before .before .args in sym (member-past 64 (a .set) (a .j) (omega arith) (omega arith))
 
 sub-result : tie.Need-sub-result
 sub-result c = search needs

@@ -1,71 +1,71 @@
--- `members_value`: the members so far, and 0 behind them.
-use Prim.Native.Nat.{suc, _≤_, _<_, _-_}
+-- `members_value`: the members passed so far, and 0 behind them.
+use Prim.Native.Nat.{_<_}
 use mathlib.Core.Path.{_≡_, refl}
-use native.Mathlib.Numerals.{add-one}
 use native.Mathlib.Omega.{arith}
 use lib.ListN.{length}
 use borrow.Author.Needs.{needs}
 use Rattle.rig.specs.Limits.{siteLimit}
-use Rattle.model.specs.Sets.{member}
-use Rattle.plan_lines.specs.Lines.{membersUpTo}
-use Rattle.save_entries.proofs.Values.{IsLine, line-more, members-few}
+use Rattle.rig_members.specs.Walk.{membersUpTo}
+use Rattle.rig_members.proofs.Walk.{passedTo, membersLeft, Walk, turn, turn-again, turn-less, walk-begins, walk-first, walk-next, walk-last}
+use Rattle.rig_members.proofs.Visits.{members-idle, members-few, members-more}
+use Rattle.save_entries.proofs.Values.{IsLine, line-more}
 use Rattle.save_entries.proofs.members_value.Statement.{statement}
 use Rattle.save_entries.proofs.members_value.Tie as tie
 
 abbrev Inv-loop : tie.InvT-loop
-Inv-loop set numbers₀ count₀ i₀ numbers count i = (i ≤ siteLimit) × IsLine (membersUpTo set i) numbers count
+Inv-loop set numbers₀ count₀ left₀ numbers count left = Walk siteLimit set left × IsLine (membersUpTo set (passedTo siteLimit left)) numbers count
 
 abbrev μ-loop : tie.MeasureT-loop
-μ-loop set numbers₀ count₀ i₀ numbers count i = siteLimit - i
+μ-loop set numbers₀ count₀ left₀ numbers count left = membersLeft siteLimit left
+
+members-within-requires : tie.Need-members-within-requires Inv-loop μ-loop
+members-within-requires c κs = search needs
 
 loop-holds : tie.Need-loop-holds Inv-loop μ-loop
 unfolding membersUpTo
-loop-holds c = (omega arith, (refl, refl))
+loop-holds c =
+    let set = c .before .args .set in
+    rw (walk-first (membersUpTo set) siteLimit set (members-idle set siteLimit) (omega arith) (c .members-within .ensures))
+    (walk-begins siteLimit set (omega arith) (c .members-within .ensures), (refl, refl))
 
-add-is-member : tie.Need-add-is-member Inv-loop μ-loop
-add-is-member c = search needs
+lowest-member-requires : tie.Need-lowest-member-requires Inv-loop μ-loop
+lowest-member-requires c κs = search needs
 
-is-member-requires : tie.Need-is-member-requires Inv-loop μ-loop
-is-member-requires c κs = search needs
-
-add-put-if : tie.Need-add-put-if Inv-loop μ-loop
-add-put-if c = search needs
-
-put-if-requires : tie.Need-put-if-requires Inv-loop μ-loop
-put-if-requires c κs =
+put-number-requires : tie.Need-put-number-requires Inv-loop μ-loop
+put-number-requires c κs =
     let l = c .before .before .before .loop in
-    omega (arith, members-few (c .before .before .before .before .args .set) (l .i), l .inv .1 .1)
+    let u = turn (c .before .before .before .loop .inv .0) (omega arith) (c .before .lowest-member .ensures) in
+    (u .visits, omega (arith, members-few (c .before .before .before .before .before .args .set) (passedTo siteLimit (l .left)), u .next, u .high, l .inv .1 .1))
 
-count-if-requires : tie.Need-count-if-requires Inv-loop μ-loop
-count-if-requires c κs =
+add-count : tie.Need-add-count Inv-loop μ-loop
+add-count c =
     let l = c .before .before .before .before .loop in
-    omega (arith, members-few (c .before .before .before .before .before .args .set) (l .i), l .inv .1 .1)
+    let u = turn (c .before .before .before .before .loop .inv .0) (omega arith) (c .before .before .lowest-member .ensures) in
+    record { fits = omega (arith, members-few (c .before .before .before .before .before .before .args .set) (passedTo siteLimit (l .left)), u .next, u .high, l .inv .1 .1) }
 
-add-i : tie.Need-add-i Inv-loop μ-loop
-add-i c = search needs
+without-member-requires : tie.Need-without-member-requires Inv-loop μ-loop
+without-member-requires c κs = turn (c .before .before .before .before .loop .inv .0) (omega arith) (c .before .before .lowest-member .ensures) .takes
 
 loop-less : tie.Need-loop-less Inv-loop μ-loop
-loop-less c = search needs
+loop-less c = turn-less (turn (c .before .before .before .before .before .loop .inv .0) (omega arith) (c .before .before .before .lowest-member .ensures)) (c .without-member .ensures)
 
 loop-again : tie.Need-loop-again Inv-loop μ-loop
-unfolding membersUpTo
 loop-again c =
     let l = c .before .before .before .before .before .loop in
-    let set = c .before .before .before .before .before .before .args .set in
-    let few : length (membersUpTo set (l .i)) < siteLimit = omega (arith, members-few set (l .i)) in (
-      omega arith,
-      rw (add-one (l .i))
-          (line-more (membersUpTo set (l .i)) few (member set (suc (l .i))) (suc (l .i)) (l .inv .1)
-          (rw (add-one (l .i)) at (c .before .before .before .is-member .ensures))
-          (rw (add-one (l .i)) at (c .before .put-if .ensures))
-          (c .count-if .ensures)),
-    )
+    let set = c .before .before .before .before .before .before .before .args .set in
+    let u = turn (c .before .before .before .before .before .loop .inv .0) (omega arith) (c .before .before .before .lowest-member .ensures) in
+    let i = passedTo siteLimit (l .left) in
+    let j = c .before .before .before .lowest-member .result in
+    let few : length (membersUpTo set i) < siteLimit = omega (arith, members-few set i, u .next, u .high) in
+    rw (walk-next (membersUpTo set) siteLimit set (members-idle set siteLimit) u (c .without-member .ensures), members-more set i (rw (u .next) at (u .visits)), ← (u .next))
+    (turn-again u (c .without-member .ensures), line-more (membersUpTo set i) j few (l .inv .1) (c .before .put-number .ensures))
 
 returns : tie.Need-returns Inv-loop μ-loop
 returns c =
     let l = c .before .loop in
-    let e : l .i ≡ siteLimit = omega arith in
-    rw (l .inv .1 .0, l .inv .1 .1, e)
+    let set = c .before .before .before .args .set in
+    let all = walk-last (membersUpTo set) siteLimit set (members-idle set siteLimit) (c .loop-test .left) in
+    rw (l .inv .1 .0, l .inv .1 .1, all)
 
 pub members-value-spec : {M : Type 1} → statement M
 members-value-spec =
@@ -73,13 +73,12 @@ members-value-spec =
     (tie.spec
     Inv-loop
     μ-loop
+    members-within-requires
     loop-holds
-    add-is-member
-    is-member-requires
-    add-put-if
-    put-if-requires
-    count-if-requires
-    add-i
+    lowest-member-requires
+    put-number-requires
+    add-count
+    without-member-requires
     loop-less
     loop-again
     returns)

@@ -1,4 +1,4 @@
--- `yield_if`: whether the site must be yielded.
+-- `yield_if`: whether the member must be yielded.
 use mathlib.Core.Path.{sym, _∙_}
 use denote.Ref.{now}
 use borrow.Author.Tests.{not-true, not-false}
@@ -30,8 +30,9 @@ must-yield-requires c κs = search needs
 returns : tie.Need-returns
 returns c d number members =
     let a = c .before .before .before .before .args in
+    let in-set = c .before .before .before .before .pre .0 in
     let must = c .before .must-yield .ensures in
-    rw (passed d (entries (now (a .held)) (now (a .heir)) (now (a .inquired))) (a .i) members (sym must ∙ not-true _ (c .if1 .taken))) (carries-sent sent-none)
+    rw (passed d (entries (now (a .held)) (now (a .heir)) (now (a .inquired))) (a .i) members in-set (sym must ∙ not-true _ (c .if1 .taken))) (carries-sent sent-none)
 
 mul-held : tie.Need-mul-held
 mul-held c = search needs
@@ -63,8 +64,9 @@ same-length c = search needs
 returns-2 : tie.Need-returns-2
 returns-2 c d number members =
     let a = c .before .before .before .before .before .before .before .before .args in
+    let in-set = c .before .before .before .before .before .before .before .before .pre .0 in
     let must = c .before .before .before .before .before .must-yield .ensures in
-    rw (gone d (entries (now (a .held)) (now (a .heir)) (now (a .inquired))) (a .i) members number (sym must ∙ not-false _ (c .before .before .before .before .if1 .left))) (carries-sent (sent-one (c .before .before .yielding .ensures) (c .before .append .ensures)))
+    rw (gone d (entries (now (a .held)) (now (a .heir)) (now (a .inquired))) (a .i) members in-set number (sym must ∙ not-false _ (c .before .before .before .before .if1 .left))) (carries-sent (sent-one (c .before .before .yielding .ensures) (c .before .append .ensures)))
 
 pub yield-if-spec : {M : Type 1} → statement M
 yield-if-spec =

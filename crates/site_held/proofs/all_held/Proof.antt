@@ -1,66 +1,82 @@
--- `all_held`: the sites passed so far pass.
-use Prim.Native.Nat.{suc, _≤_, _-_}
+-- `all_held`: the members passed so far are held.
+use Prim.Native.Nat.{_≤_}
 use mathlib.Core.Path.{_≡_, refl, sym, _∙_}
-use mathlib.Core.Bool.{true, not, _||_}
+use mathlib.Core.Bool.{true, false}
 use native.Mathlib.Omega.{arith}
-use native.Mathlib.Nat.{le-antisymm}
-use native.Mathlib.Numerals.{add-one}
-use lib.Dec.{eqb}
 use borrow.Author.Tests.{not-true, not-false}
 use borrow.Author.Needs.{needs}
 use Rattle.basics.specs.Helpers.{all}
-use Rattle.basics.proofs.Basics.{all-fails, all-more}
-use Rattle.model.specs.Tables.{at}
-use Rattle.model.specs.Desk.{has, heldFor}
+use Rattle.basics.proofs.Basics.{and-true, all-fails}
 use Rattle.model.specs.Site.{allHeld}
+use Rattle.rig_members.specs.Walk.{wordBits}
+use Rattle.rig_members.proofs.Walk.{passedTo, membersLeft, Walk, turn, turn-again, turn-less, walk-begins, walk-first, walk-next, walk-last}
+use Rattle.site_held.proofs.Held.{heldIf, held-idle, held-member}
 use Rattle.site_held.proofs.all_held.Statement.{statement}
 use Rattle.site_held.proofs.all_held.Tie as tie
 
 abbrev Inv-loop : tie.InvT-loop
-Inv-loop d i₀ i-end i =
-    (all (λ j. not (has d j) || not (eqb (heldFor d j) 0)) i ≡ true) × (i ≤ d .size) × (i-end ≡ d .size)
+Inv-loop d left₀ left = Walk (d .size) (d .members) left × (all (heldIf d) (passedTo (d .size) left) ≡ true)
 
 abbrev μ-loop : tie.MeasureT-loop
-μ-loop d i₀ i-end i = d .size - i
+μ-loop d left₀ left = membersLeft (d .size) left
+
+members-within-requires : tie.Need-members-within-requires Inv-loop μ-loop
+members-within-requires c κs = search needs
 
 loop-holds : tie.Need-loop-holds Inv-loop μ-loop
 unfolding all
-loop-holds c = (refl, omega arith, refl)
+loop-holds c =
+    let d = c .before .args .t1 in
+    let word : d .size ≤ wordBits = omega arith in
+    rw (walk-first (all (heldIf d)) (d .size) (d .members) (held-idle d) word (c .members-within .ensures)) (walk-begins (d .size) (d .members) word (c .members-within .ensures), refl)
+
+lowest-member-requires : tie.Need-lowest-member-requires Inv-loop μ-loop
+lowest-member-requires c κs = search needs
+
+sub-g : tie.Need-sub-g Inv-loop μ-loop
+sub-g c = omega (arith, turn (c .before .before .loop .inv .0) (omega arith) (c .lowest-member .ensures) .next)
 
 mul-g : tie.Need-mul-g Inv-loop μ-loop
-mul-g c = search needs
+mul-g c =
+    let u = turn (c .before .before .loop .inv .0) (omega arith) (c .lowest-member .ensures) in
+    omega (arith, u .next, u .high)
 
 element-copy-out-g : tie.Need-element-copy-out-g Inv-loop μ-loop
-element-copy-out-g c = search needs
+element-copy-out-g c =
+    let u = turn (c .before .before .loop .inv .0) (omega arith) (c .lowest-member .ensures) in
+    omega (arith, u .next, u .high)
 
-add-outside-or-held : tie.Need-add-outside-or-held Inv-loop μ-loop
-add-outside-or-held c = search needs
-
-outside-or-held-requires : tie.Need-outside-or-held-requires Inv-loop μ-loop
-outside-or-held-requires c κs = search needs
+member-held-requires : tie.Need-member-held-requires Inv-loop μ-loop
+member-held-requires c κs = turn (c .before .before .before .loop .inv .0) (omega arith) (c .before .lowest-member .ensures) .visits
 
 returns : tie.Need-returns Inv-loop μ-loop
-unfolding allHeld at
+unfolding allHeld
 returns c =
-    let n = c .before .before .before .before .before .args .t1 .size in
-    let i = c .before .before .before .before .loop .i in
-    sym (all-fails _ n (suc i) (omega arith) (omega arith) (sym (rw add-one at (c .before .outside-or-held .ensures)) ∙ not-true _ (c .if1 .taken)))
+    let d = c .before .before .before .before .before .before .before .args .t1 in
+    let u = turn (c .before .before .before .before .before .loop .inv .0) (omega arith) (c .before .before .before .lowest-member .ensures) in
+    let free : heldIf d _ ≡ false = held-member d _ (omega (arith, u .next)) (u .visits) (c .before .member-held .ensures) ∙ not-true _ (c .if1 .taken) in
+    sym (all-fails (heldIf d) (d .size) _ (omega (arith, u .next)) (u .high) free)
 
-add-i : tie.Need-add-i Inv-loop μ-loop
-add-i c = search needs
+without-member-requires : tie.Need-without-member-requires Inv-loop μ-loop
+without-member-requires c κs = turn (c .before .before .before .before .before .loop .inv .0) (omega arith) (c .before .before .before .lowest-member .ensures) .takes
 
 loop-less : tie.Need-loop-less Inv-loop μ-loop
-loop-less c = search needs
+loop-less c = turn-less (turn (c .before .before .before .before .before .before .loop .inv .0) (omega arith) (c .before .before .before .before .lowest-member .ensures)) (c .without-member .ensures)
 
 loop-again : tie.Need-loop-again Inv-loop μ-loop
-unfolding at
+unfolding all
 loop-again c =
-    let l = c .before .before .before .before .loop in
-    (all-more _ (l .i) (l .inv .0) (sym (rw add-one at (c .before .outside-or-held .ensures)) ∙ not-false _ (c .if1 .left)), omega arith, refl)
+    let d = c .before .before .before .before .before .before .before .before .args .t1 in
+    let l = c .before .before .before .before .before .before .loop in
+    let u = turn (c .before .before .before .before .before .before .loop .inv .0) (omega arith) (c .before .before .before .before .lowest-member .ensures) in
+    let held = held-member d _ (omega (arith, u .next)) (u .visits) (c .before .before .member-held .ensures) ∙ not-false _ (c .before .if1 .left) in
+    rw (walk-next (all (heldIf d)) (d .size) (d .members) (held-idle d) u (c .without-member .ensures)) (turn-again u (c .without-member .ensures), and-true _ _ (l .inv .1) (rw (u .next) at held))
 
 returns-2 : tie.Need-returns-2 Inv-loop μ-loop
 unfolding allHeld
-returns-2 c = sym (rw (le-antisymm (c .before .loop .inv .1) (c .loop-test .left)) at (c .before .loop .inv .0))
+returns-2 c =
+    let d = c .before .before .before .args .t1 in
+    sym (sym (walk-last (all (heldIf d)) (d .size) (d .members) (held-idle d) (c .loop-test .left)) ∙ c .before .loop .inv .1)
 
 pub all-held-spec : {M : Type 1} → statement M
 all-held-spec =
@@ -68,13 +84,15 @@ all-held-spec =
     (tie.spec
     Inv-loop
     μ-loop
+    members-within-requires
     loop-holds
+    lowest-member-requires
+    sub-g
     mul-g
     element-copy-out-g
-    add-outside-or-held
-    outside-or-held-requires
+    member-held-requires
     returns
-    add-i
+    without-member-requires
     loop-less
     loop-again
     returns-2)

@@ -1,0 +1,2 @@
+-- A walk of a set's members.
+pub mod Walk

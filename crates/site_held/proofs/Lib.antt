@@ -1,0 +1,2 @@
+-- The test that `all_held` makes of a site.
+pub mod Held
