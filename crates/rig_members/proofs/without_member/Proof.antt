@@ -1,5 +1,5 @@
 -- `without_member`: the member's bit is set, so that taking it away clears it.
-use Prim.Native.Nat.{ℕ, _-_, _*_, _%_, _^_, _≤_}
+use Prim.Native.Nat.{ℕ, _-_, _*_, _%_, _^_}
 use mathlib.Core.Path.{_≡_, ap, _∙_}
 use native.Mathlib.Nat.{one-mul, le-of-eq, le-trans}
 use native.Mathlib.Omega.{arith}

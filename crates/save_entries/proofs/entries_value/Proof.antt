@@ -1,6 +1,6 @@
 -- `entries_value`: the entries at the members passed so far, and 0 behind them.
 use Prim.Native.Nat.{suc, _<_}
-use mathlib.Core.Path.{_≡_, refl}
+use mathlib.Core.Path.{refl}
 use denote.Ref.{now}
 use native.Mathlib.Omega.{arith}
 use lib.ListN.{length}

@@ -53,8 +53,7 @@ without-member-requires c κs =
 loop-less : tie.Need-loop-less Inv-loop μ-loop
 loop-less c =
     let l = c .before .before .before .before .before .before .loop in
-    let u = turn (l .inv .0) (omega arith) (c .before .before .before .before .lowest-member .ensures) in
-    rw (c .without-member .ensures) (omega (arith, u .fewer))
+    turn-less (turn (l .inv .0) (omega arith) (c .before .before .before .before .lowest-member .ensures)) (c .without-member .ensures)
 
 loop-again : tie.Need-loop-again Inv-loop μ-loop
 unfolding requests
