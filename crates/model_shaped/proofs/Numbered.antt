@@ -1,30 +1,25 @@
--- No event makes more fails numbered 0: only a request brings fails, with the numbers of queued sites.
-use Prim.Native.Nat.{ℕ, _-_, _≤_}
-use mathlib.Core.Path.{_≡_, refl}
-use mathlib.Core.Logic.{_≢_}
+-- No event sends a fail numbered 0: only a request brings fails, with the numbers of queued sites.
+use Prim.Native.Nat.{ℕ, _≤_}
+use mathlib.Core.Path.{_≡_, refl, subst}
 use mathlib.Core.Bool.{true, false, not}
-use mathlib.Core.List.{List, [], _∷_, _++_}
+use mathlib.Core.List.{List}
 use mathlib.Core.Option.{Option, none, some}
 use native.Mathlib.Omega.{arith}
 use lib.Dec.{eqb}
-use lib.ListN.{length, replicate}
-use lib.Seq.{take-append-seam}
-use borrow.Author.Tests.{eqb-true, eqb-false, ne-eqb, not-true}
-use Rattle.basics.specs.Helpers.{tally, first, withoutFirst, All}
+use lib.ListN.{length}
+use borrow.Author.Tests.{eqb-false, ne-eqb, not-true}
+use Rattle.basics.specs.Helpers.{first, withoutFirst, All}
 use Rattle.basics.proofs.Basics.{by-bool, and-split}
-use Rattle.basics.proofs.Lists.{all-none, tally-without}
 use Rattle.rig.specs.declared.Desk.{Desk}
 use Rattle.rig.specs.declared.Event.{Event}
 use Rattle.rig.specs.declared.Event.the-variants.{Ask, Leave, Deliver}
 use Rattle.rig.specs.declared.Message.{Message}
-use Rattle.rig.specs.Limits.{messageLimit}
 use Rattle.rig.specs.Messages.{REQUEST}
 use Rattle.model.specs.State.{Tables, Stored, underWay, sizeOf, setsOf, inRange, isResting, isInside, deskOf}
-use Rattle.model.specs.Desk.{Effect}
 use Rattle.model.specs.Arbiter.{headOf, clockRaised}
 use Rattle.model.specs.Deliver.{between}
 use Rattle.model.specs.Shape.{numberShaped, messageShaped, wellShaped}
-use Rattle.model.specs.Event.{actor, sitesNamed, Attempt, refused, possible, takenOff, attempt, attempted, effectCode, blankMessage, padded, acceptedState, judged, eventAt, settled, played}
+use Rattle.model.specs.Event.{actor, sitesNamed, Attempt, refused, possible, takenOff, attempt, attempted}
 use Rattle.model.proofs.Tables.{at-put-same, at-put-other}
 use Rattle.model.proofs.Shaped.{shaped, listed, ends}
 use Rattle.model.proofs.Delivered.{first-shaped}
@@ -32,7 +27,6 @@ use Rattle.model.proofs.Sent.{Others, Fails, asked-sends, left-sends, delivered
 use Rattle.model_shaped.specs.Numbered.{isNumberless, QueueRows, FailsNumbered}
 use Rattle.model_shaped.proofs.Fine.{is-given}
 use Rattle.model_shaped.proofs.Arbiters.{head-queued}
-use Rattle.model_shaped.proofs.Events.{event-cases}
 
 abbrev Numbered : Message → Type 0
 Numbered m = isNumberless m ≡ false
@@ -59,12 +53,6 @@ fails d k n low high given = record {
       rw (at-put-other 0 (d .queued) k n (headOf d) other) (ne-eqb _ 0 (head-queued (d .queued) (d .size) (eqb-false (headOf d) 0 (not-true _ there))));
 }
 
--- nothing more where nothing that counts is put behind
-tally-behind : (xs ys : List Message) → tally isNumberless ys ≡ 0 → tally isNumberless (xs ++ ys) ≡ tally isNumberless xs
-unfolding tally
-tally-behind [] ys e = e
-tally-behind (x ∷ xs) ys e = rw (tally-behind xs ys e)
-
 -- a message of a well-shaped state with kind request has a number
 request-given : (n : ℕ) (sets : List ℕ) (m : Message) → messageShaped n sets m ≡ true → m .kind ≡ REQUEST → 1 ≤ m .number
 unfolding messageShaped numberShaped
@@ -81,60 +69,31 @@ module _ (s : Stored) (w : wellShaped s ≡ true) (rows : QueueRows (s .tables))
   abbrev ms : List Message
   ms = underWay s
 
-  -- an attempt sends no fail numbered 0, and leaves no more of them under way
-  abbrev Few : Attempt → Type 0
-  Few (refused c) = c ≢ 0
-  Few (possible e rest) = (tally isNumberless rest ≤ tally isNumberless ms) × All Numbered (e .sent)
+  -- an attempt sends no fail numbered 0
+  abbrev SendsNone : Attempt → Type 0
+  SendsNone (refused c) = Unit {0}
+  SendsNone (possible e rest) = All Numbered (e .sent)
 
-  taken-few : (a k : ℕ) → inRange (sizeOf t) k ≡ true → (o : Option Message) → first (between a k) ms ≡ o → Few (takenOff (deskOf t k) o (withoutFirst (between a k) ms))
-  unfolding takenOff tally deskOf clockRaised
-  taken-few a k i none e = λ z. omega (arith, z)
-  taken-few a k i (some m) e =
+  taken : (a k : ℕ) → inRange (sizeOf t) k ≡ true → (o : Option Message) → first (between a k) ms ≡ o → SendsNone (takenOff (deskOf t k) o (withoutFirst (between a k) ms))
+  unfolding takenOff deskOf clockRaised
+  taken a k i none e = tt
+  taken a k i (some m) e =
       let h = shaped s w in
       let shape = first-shaped (sizeOf t) (setsOf t) a k ms m (h .messages) e .0 in
       let from = ends s h m shape .0 in
       let row = rows k (listed s h k i) in
-      let less = tally-without (between a k) isNumberless ms m e in (
-        by-bool (isNumberless m) (λ b. let l = rw b at less in omega arith) (λ b. let l = rw b at less in omega arith),
-        delivered-sends Numbered others (deskOf t k) m (λ kind. fails _ (m .from) (m .number) (from .low) (omega (arith, from .high, row)) (request-given (sizeOf t) (setsOf t) m shape kind)),
-      )
+      delivered-sends Numbered others (deskOf t k) m (λ kind. fails _ (m .from) (m .number) (from .low) (omega (arith, from .high, row)) (request-given (sizeOf t) (setsOf t) m shape kind))
 
-  attempt-few : (e : Event) → sitesNamed (sizeOf t) e ≡ true → Few (attempt (deskOf t (actor e)) ms e)
+  attempt-sends : (e : Event) → sitesNamed (sizeOf t) e ≡ true → SendsNone (attempt (deskOf t (actor e)) ms e)
   unfolding attempt sitesNamed actor
-  attempt-few (Ask k) i = by-bool (isResting (deskOf t k .site .mode)) (λ e. rw e (omega arith, asked-sends Numbered others (deskOf t k))) (λ e. rw e (λ z. omega (arith, z)))
-  attempt-few (Leave k) i = by-bool (isInside (deskOf t k .site .mode)) (λ e. rw e (omega arith, left-sends Numbered others (deskOf t k))) (λ e. rw e (λ z. omega (arith, z)))
-  attempt-few (Deliver a k) i = taken-few a k (and-split (inRange (sizeOf t) a) _ i .1) (first (between a k) ms) refl
+  attempt-sends (Ask k) i = by-bool (isResting (deskOf t k .site .mode)) (λ e. rw e (asked-sends Numbered others (deskOf t k))) (λ e. rw e tt)
+  attempt-sends (Leave k) i = by-bool (isInside (deskOf t k .site .mode)) (λ e. rw e (left-sends Numbered others (deskOf t k))) (λ e. rw e tt)
+  attempt-sends (Deliver a k) i = taken a k (and-split (inRange (sizeOf t) a) _ i .1) (first (between a k) ms) refl
 
-  attempted-few : (e : Event) → Few (attempted (deskOf t (actor e)) ms e)
+  attempted-sends : (e : Event) → SendsNone (attempted (deskOf t (actor e)) ms e)
   unfolding attempted deskOf
-  attempted-few e = by-bool (sitesNamed (sizeOf t) e) (λ i. rw i (attempt-few e i)) (λ i. rw i (λ z. omega (arith, z)))
-
-  -- no more of them in a state
-  abbrev NoMore : Stored → Type 0
-  NoMore x = tally isNumberless (underWay x) ≤ tally isNumberless ms
-
-  accepted-few : (k : ℕ) (e : Effect) (rest : List Message) → Few (possible e rest) → NoMore (acceptedState t k (e .desk) (rest ++ e .sent))
-  unfolding acceptedState padded
-  accepted-few k e rest f =
-      let all = rest ++ e .sent in
-      rw (
-        take-append-seam all (replicate (messageLimit - length all) blankMessage),
-        tally-behind rest (e .sent) (all-none Numbered isNumberless (e .sent) (f .1) (λ m h. h)),
-      )
-      (f .0)
-
-  judged-few : (k : ℕ) (a : Attempt) → Few a → NoMore (settled s k (judged (t .rig .accepted) (deskOf t k) ms a) .next)
-  unfolding judged settled
-  judged-few k (refused c) f = by-bool (eqb c 0) (λ z. absurd (f (eqb-true c 0 z))) (λ z. rw z (omega arith))
-  judged-few k (possible e rest) f =
-      by-bool (eqb (effectCode (t .rig .accepted) e rest) 0)
-      (λ c. rw c (accepted-few k e rest f))
-      (λ c. rw (c, c) (omega arith))
-
-  played-few : (e : Event) → NoMore (played s e .next)
-  unfolding played eventAt
-  played-few e = judged-few (actor e) (attempted (deskOf t (actor e)) ms e) (attempted-few e)
+  attempted-sends e = by-bool (sitesNamed (sizeOf t) e) (λ i. rw i (attempt-sends e i)) (λ i. rw i tt)
 
 pub fails-numbered : FailsNumbered
 unfolding FailsNumbered
-fails-numbered s e w rows = event-cases (λ x. tally isNumberless (underWay x) ≤ tally isNumberless (underWay s)) s e w (omega arith) (played-few s w rows e)
+fails-numbered s e w rows f rest same = subst (λ (a : Attempt). SendsNone s w rows a) same (attempted-sends s w rows e)

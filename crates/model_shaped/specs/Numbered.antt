@@ -1,20 +1,21 @@
 -- Request 2.3: "From this version a fail carries the sequence number of the ask it is about." No fail that is sent is numbered 0, also from a state that no run
--- reaches: only a saved text brings one.
-use Prim.Native.Nat.{ℕ, _≤_}
+-- reaches: only a saved text brings one, or a list that a caller lends.
+use Prim.Native.Nat.{ℕ}
 use mathlib.Core.Path.{_≡_}
-use mathlib.Core.Bool.{Bool, true, _&&_}
-use mathlib.Core.List.{[]}
+use mathlib.Core.Bool.{Bool, true, false, _&&_}
+use mathlib.Core.List.{List, []}
 use lib.Dec.{eqb}
 use lib.ListN.{length}
-use Rattle.basics.specs.Helpers.{tally}
+use Rattle.basics.specs.Helpers.{All}
 use Rattle.rig.specs.declared.Event.{Event}
 use Rattle.rig.specs.declared.Message.{Message}
 use Rattle.rig.specs.Limits.{siteLimit, SiteNumber}
 use Rattle.rig.specs.Messages.{FAIL}
 use Rattle.model.specs.Tables.{at}
-use Rattle.model.specs.State.{Tables, Stored, underWay}
+use Rattle.model.specs.State.{Tables, Stored}
 use Rattle.model.specs.Shape.{wellShaped}
-use Rattle.model.specs.Event.{event}
+use Rattle.model.specs.Desk.{Effect}
+use Rattle.model.specs.Event.{possible, attemptOn}
 
 -- a fail numbered 0
 unfoldable pub isNumberless : Message → Bool
@@ -24,8 +25,8 @@ isNumberless m = eqb (m .kind) FAIL && eqb (m .number) 0
 abbrev pub QueueRows : Tables → Type 0
 QueueRows t = (j : ℕ) → SiteNumber j → length (at [] (t .queued) j) ≡ siteLimit
 
--- No event makes more fails numbered 0.
+-- No fail that an event sends is numbered 0.
 unfoldable pub FailsNumbered : Type 0
 FailsNumbered =
     (s : Stored) (e : Event) → wellShaped s ≡ true → QueueRows (s .tables) →
-    tally isNumberless (underWay (event s e .next)) ≤ tally isNumberless (underWay s)
+    (f : Effect) (rest : List Message) → attemptOn s e ≡ possible f rest → All (λ m. isNumberless m ≡ false) (f .sent)

@@ -18,7 +18,7 @@ pub fn shape_lost() -> u8
     0
 }
 
-// No event on a well-shaped state makes a fail numbered 0.
+// No fail that an event on a well-shaped state sends is numbered 0.
 pub fn fails_numbered() -> u8
     ensures { λ r. ⌜ (r ≡ 0) × FailsNumbered ⌝ }
 {

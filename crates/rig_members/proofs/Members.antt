@@ -10,7 +10,7 @@ use lib.Pow.{pow-pos, pow-mono, field, mod-mod-pow}
 use borrow.Author.Tests.{ltb-true, ltb-false}
 use Rattle.basics.proofs.Basics.{by-bool, clash, lowest-none, lowest-found}
 use Rattle.model.specs.Sets.{member}
-use Rattle.rig_members.specs.Walk.{wordBits, within, lowestMember, without}
+use Rattle.rig_members.specs.Walk.{wordBits, within, lowestMember, withoutMember}
 use Rattle.rig_members.proofs.Lowest.{lowest-bit, members-low, member-here, members-above}
 
 -- Where a member stands.
@@ -87,12 +87,12 @@ pub record LowestAt (set t : ℕ) : Type 0 where
   pub lowest : lowestMember set ≡ suc t
   pub has : member set (suc t) ≡ true
   pub below : (j : ℕ) → 1 ≤ j → j ≤ t → member set j ≡ false
-  pub gone : (j : ℕ) → 1 ≤ j → j ≤ suc t → member (without set (suc t)) j ≡ false
-  pub kept : (j : ℕ) → suc t < j → member (without set (suc t)) j ≡ member set j
+  pub gone : (j : ℕ) → 1 ≤ j → j ≤ suc t → member (withoutMember set (suc t)) j ≡ false
+  pub kept : (j : ℕ) → suc t < j → member (withoutMember set (suc t)) j ≡ member set j
 
 -- "without that bit it is x − 2 ^ t"
-odd-without : (m t : ℕ) → without ((m * 2 + 1) * 2 ^ t) (suc t) ≡ m * 2 * 2 ^ t
-unfolding without
+odd-without : (m t : ℕ) → withoutMember ((m * 2 + 1) * 2 ^ t) (suc t) ≡ m * 2 * 2 ^ t
+unfolding withoutMember
 odd-without m t =
     let e : suc t - 1 ≡ t = omega arith in
     let s : (m * 2 + 1) * 2 ^ t ≡ m * 2 * 2 ^ t + 2 ^ t = rw (add-mul, one-mul) in

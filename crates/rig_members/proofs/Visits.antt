@@ -1,17 +1,16 @@
 -- The list of a set's members, and that a walk visits just these.
-use Prim.Native.Nat.{ℕ, zero, suc, _≤_, _<_}
+use Prim.Native.Nat.{ℕ, zero, suc, _+_, _≤_, _<_}
 use mathlib.Core.Bool.{true, false}
 use mathlib.Core.List.{List, [], _∷_, _++_, append-assoc, append-nil}
-use mathlib.Core.Path.{_≡_, refl, sym, _∙_}
+use mathlib.Core.Path.{_≡_, refl, sym, ap, _∙_}
 use native.Mathlib.Omega.{arith}
 use lib.Dec.{eqb}
-use lib.ListN.{length, length-append}
+use lib.ListN.{length, take, length-append}
 use borrow.Author.Tests.{eqb-true, eqb-false}
 use Rattle.basics.proofs.Basics.{by-bool}
 use Rattle.model.specs.Sets.{member}
-use Rattle.rig_members.specs.Walk.{wordBits, membersUpTo, visited, WalkVisits}
-use Rattle.rig_members.proofs.Members.{within-all}
-use Rattle.rig_members.proofs.Walk.{passedTo, passed-all, membersLeft, Walk, turn, walk-whole, walk-first, walk-next}
+use Rattle.rig_members.specs.Walk.{wordBits, within, lowestMember, withoutMember, membersUpTo, visited, WalkVisits}
+use Rattle.rig_members.proofs.Walk.{passedTo, passed-all, membersLeft, Walk, turn, walk-begins, walk-first, walk-next}
 
 -- only members come to the list
 pub members-idle : (set n i : ℕ) → i < n → member set (suc i) ≡ false → membersUpTo set (suc i) ≡ membersUpTo set i
@@ -46,26 +45,39 @@ no-members set = refl
 
 -- those before the members that are left, and those that are left
 visited-rest :
-    (set turns : ℕ) {left : ℕ}
-    → Walk wordBits set left
-    → membersLeft wordBits left ≤ turns
-    → membersUpTo set (passedTo wordBits left) ++ visited turns left ≡ membersUpTo set wordBits
+    (n set turns : ℕ) {left : ℕ}
+    → Walk n set left
+    → membersLeft n left ≤ turns
+    → membersUpTo set (passedTo n left) ++ visited turns left ≡ membersUpTo set n
 unfolding visited
-visited-rest set zero {left} w h =
+visited-rest n set zero {left} w h =
     by-bool (eqb left 0)
     (λ e. rw (eqb-true left 0 e, append-nil, passed-all))
     (λ e. absurd (omega (arith, turn w (omega (arith, eqb-false left 0 e)) refl .fewer)))
-visited-rest set (suc turns) {left} w h =
+visited-rest n set (suc turns) {left} w h =
     by-bool (eqb left 0)
     (λ e. rw (eqb-true left 0 e, append-nil, passed-all))
     (λ e.
     let some : 0 < left = omega (arith, eqb-false left 0 e) in
     let u = turn w some refl in
-    let on = visited-rest set turns (u .again) (omega (arith, u .fewer)) in
-    let built = walk-next (membersUpTo set) wordBits set (members-idle set wordBits) u refl in
+    let on = visited-rest n set turns (u .again) (omega (arith, u .fewer)) in
+    let built = walk-next (membersUpTo set) n set (members-idle set n) u refl in
     rw e (members-then set (u .next) (u .visits) _ ∙ rw (← built) on))
 
+-- fewer turns visit the first of them
+visited-first : (turns more left : ℕ) → turns ≤ more → visited turns left ≡ take turns (visited more left)
+unfolding visited
+visited-first zero more left h = refl
+visited-first (suc turns) zero left h = absurd (omega arith)
+visited-first (suc turns) (suc more) left h =
+    by-bool (eqb left 0)
+    (λ e. rw e)
+    (λ e. rw e (ap (λ (r : List ℕ). lowestMember left ∷ r) (visited-first turns more (withoutMember left (lowestMember left)) (omega arith))))
+
 pub walk-visits : WalkVisits
-walk-visits set turns f h =
-    let first = walk-first (membersUpTo set) wordBits set (members-idle set wordBits) (omega arith) (sym (within-all set f)) in
-    rw (first, no-members) at (visited-rest set turns (walk-whole set f) h)
+walk-visits n set turns h =
+    let left = within n set in
+    let more = turns + membersLeft n left in
+    let first = walk-first (membersUpTo set) n set (members-idle set n) h refl in
+    let all : visited more left ≡ membersUpTo set n = rw (first, no-members) at (visited-rest n set more (walk-begins n set h refl) (omega arith)) in
+    visited-first turns more left (omega arith) ∙ ap (take turns) all

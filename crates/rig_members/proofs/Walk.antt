@@ -13,7 +13,7 @@ use borrow.Author.Tests.{ne-eqb, eqb-true, eqb-false, ltb-true, ltb-false}
 use Rattle.basics.specs.Helpers.{count}
 use Rattle.basics.proofs.Basics.{by-bool, clash, count-without}
 use Rattle.model.specs.Sets.{member}
-use Rattle.rig_members.specs.Walk.{wordBits, within, lowestMember, without}
+use Rattle.rig_members.specs.Walk.{wordBits, within, lowestMember, withoutMember}
 use Rattle.rig_members.proofs.Members.{member-zero, member-placed, member-within, within-short, within-all, LowestAt, lowest-at}
 
 -- How far a walk is: the sites below the lowest member left, all n where none is left.
@@ -56,10 +56,10 @@ pub record Turn (n set left j : ℕ) : Type 0 where
   pub high : j ≤ n
   pub visits : member set j ≡ true
   pub takes : member left j ≡ true
-  pub again : Walk n set (without left j)
-  pub fewer : suc (membersLeft n (without left j)) ≡ membersLeft n left
-  pub onward : j ≤ passedTo n (without left j)
-  pub between : (k : ℕ) → j < k → k ≤ passedTo n (without left j) → member set k ≡ false
+  pub again : Walk n set (withoutMember left j)
+  pub fewer : suc (membersLeft n (withoutMember left j)) ≡ membersLeft n left
+  pub onward : j ≤ passedTo n (withoutMember left j)
+  pub between : (k : ℕ) → j < k → k ≤ passedTo n (withoutMember left j) → member set k ≡ false
 
 walk-fits : {n set left : ℕ} → Walk n set left → left < 2 ^ wordBits
 walk-fits {n} w = let m = pow-mono {i = n} {j = wordBits} (w .word) in let s = w .short in omega arith
@@ -80,7 +80,7 @@ module _ {n set left : ℕ} (w : Walk n set left) (some : 0 < left) where
   t = trailingZeros wordBits left
 
   abbrev rest : ℕ
-  rest = without left (suc t)
+  rest = withoutMember left (suc t)
 
   fits : left < 2 ^ wordBits
   fits = walk-fits w
@@ -89,7 +89,7 @@ module _ {n set left : ℕ} (w : Walk n set left) (some : 0 < left) where
   low = lowest-at left some fits
 
   rest-short : rest < 2 ^ n
-  unfolding without
+  unfolding withoutMember
   rest-short = omega (arith, w .short, sub-le left (2 ^ (suc t - 1)))
 
   rest-fits : rest < 2 ^ wordBits
@@ -146,10 +146,10 @@ module _ {n set left : ℕ} (w : Walk n set left) (some : 0 < left) where
 pub turn : {n set left j : ℕ} → Walk n set left → 0 < left → j ≡ lowestMember left → Turn n set left j
 turn w some e = rw e (lowest-turn w some)
 
-pub turn-again : {n set left j after : ℕ} → Turn n set left j → after ≡ without left j → Walk n set after
+pub turn-again : {n set left j after : ℕ} → Turn n set left j → after ≡ withoutMember left j → Walk n set after
 turn-again u e = rw e (u .again)
 
-pub turn-less : {n set left j after : ℕ} → Turn n set left j → after ≡ without left j → membersLeft n after < membersLeft n left
+pub turn-less : {n set left j after : ℕ} → Turn n set left j → after ≡ withoutMember left j → membersLeft n after < membersLeft n left
 turn-less u e = rw e (omega (arith, u .fewer))
 
 -- The whole walk.
@@ -190,7 +190,7 @@ module _ {A : Type 0} (F : ℕ → A) (n set : ℕ) (idle : (i : ℕ) → i < n 
   walk-first h e = ap (λ l. F (passedTo n l)) e ∙ first h
 
   -- a turn for the lowest member left builds it up by one site, and the sites up to the next member change nothing
-  pub walk-next : {left j after : ℕ} → Turn n set left j → after ≡ without left j → F (passedTo n after) ≡ F (suc (passedTo n left))
+  pub walk-next : {left j after : ℕ} → Turn n set left j → after ≡ withoutMember left j → F (passedTo n after) ≡ F (suc (passedTo n left))
   walk-next {left} {j} u e = ap (λ l. F (passedTo n l)) e ∙ still j _ (u .onward) (passed-up-to (u .again)) (u .between) ∙ ap F (u .next)
 
   -- where none is left, it is built up from all n sites

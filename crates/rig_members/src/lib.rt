@@ -3,7 +3,7 @@ ghost use mathlib.Core.Path.{_≡_};
 ghost use mathlib.Core.Bool.{true};
 ghost use Prim.Native.Nat.{_<_};
 ghost use Rattle.model.specs.Sets.{member};
-ghost use Rattle.rig_members.specs.Walk.{wordBits, within, lowestMember, without, WalkVisits};
+ghost use Rattle.rig_members.specs.Walk.{wordBits, within, lowestMember, withoutMember, WalkVisits};
 
 // An inner call: where a walk of the members among the sites 1 to n begins.
 pub fn members_within(n: u64, set: u64) -> u64
@@ -24,7 +24,7 @@ pub fn lowest_member(set: u64) -> u64
 // An inner call: the set without its member j.
 pub fn without_member(set: u64, j: u64) -> u64
     requires { ⌜ member set j ≡ true ⌝ }
-    ensures { λ r. ⌜ r ≡ without set j ⌝ }
+    ensures { λ r. ⌜ r ≡ withoutMember set j ⌝ }
 {
     set - (1 << (j - 1))
 }

@@ -27,7 +27,8 @@ EarlierRead =
     (s : Stored) → IsState s → Earlier.wellShaped s ≡ true →
     (readText (textIn firstSpelling s) ≡ some (kept s)) × (textOf (kept s) ≡ textIn firstSpelling s)
 
--- What happens to a rig in the version before: an event, or a break, from which its state goes on with 0 past its messages.
+-- What happens to a rig in the version before: an event, or a break, from which its state goes on with 0 past its messages. That it read its own
+-- text so was proved of that version, and is taken from it here.
 pub data EarlierAct : Type 0 where
   plays : Event → EarlierAct
   pauses : EarlierAct

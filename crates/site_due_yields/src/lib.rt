@@ -11,8 +11,8 @@ ghost use Rattle.model.specs.Sets.{member};
 ghost use Rattle.rig.specs.Limits.{siteLimit};
 ghost use Rattle.site_due_yields.specs.Entries.{before, after, YieldsIf};
 
-// A member is held with a remembered inquire: g is the number held, q the inquire's.
-fn must_yield(g: u64, q: u64) -> bool
+// A member's yield is due: it is held with number g, and an inquire with number q is remembered; 0 is none.
+fn is_due(g: u64, q: u64) -> bool
     ensures { λ r. ⌜ r ≡ not (eqb g 0) && not (eqb q 0) ⌝ }
 {
     g != 0 && q != 0
@@ -34,7 +34,7 @@ pub fn yield_if(
 {
     let j = i as u64 + 1;
     let g = held[i];
-    if !must_yield(g, inquired[i]) {
+    if !is_due(g, inquired[i]) {
         return count;
     }
     held[i] = 0;

@@ -1,14 +1,12 @@
 -- The test that all members are held, site by site.
-use Prim.Native.Nat.{ℕ, suc, _-_, _≤_, _<_}
+use Prim.Native.Nat.{ℕ, suc, _<_}
 use mathlib.Core.Bool.{Bool, true, false, not, _||_}
 use mathlib.Core.Path.{_≡_}
 use lib.Dec.{eqb}
-use lib.ListN.{getD}
 use Rattle.basics.specs.Helpers.{all}
 use Rattle.basics.proofs.Basics.{by-bool}
 use Rattle.rig.specs.declared.Desk.{Desk}
 use Rattle.model.specs.Sets.{member}
-use Rattle.model.proofs.Tables.{at-read}
 use Rattle.model.specs.Desk.{has, heldFor}
 
 -- site j is held, if it is a member
@@ -20,11 +18,6 @@ pub held-idle : (d : Desk) (i : ℕ) → i < d .size → member (d .members) (su
 unfolding all
 held-idle d i h e = rw e (by-bool (all (heldIf d) i) (λ t. rw t) (λ t. rw t))
 
--- a member passes as the code reads its number
-pub held-member :
-    (d : Desk) (j : ℕ) {r : Bool}
-    → 1 ≤ j
-    → member (d .members) j ≡ true
-    → r ≡ not (eqb (getD (d .held) (j - 1) 0) 0)
-    → heldIf d j ≡ r
-held-member d j h e f = rw (e, at-read 0 (d .held) j h, f)
+-- a member passes if it is held
+pub held-member : (d : Desk) (j : ℕ) {r : Bool} → member (d .members) j ≡ true → r ≡ not (eqb (heldFor d j) 0) → heldIf d j ≡ r
+held-member d j e f = rw (e, f)

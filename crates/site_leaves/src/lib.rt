@@ -57,15 +57,15 @@ fn hand_on_members(d: Desk, out: &mut [Row], count: usize) -> usize
     requires { ⌜ LeaveFits d count (now out) ⌝ }
     ensures { λ r. ⌜ Appends (handOns d (d .size)) count (now (out .entry)) (now (out .exit)) r ⌝ }
 {
-    let mut left = members_within(d.size, d.members);
+    let mut remaining = members_within(d.size, d.members);
     let mut n = count;
-    while left != 0 {
-        let j = lowest_member(left);
+    while remaining != 0 {
+        let j = lowest_member(remaining);
         let i = (j - 1) as usize;
         let k = d.heir[i];
         let g = d.held[i];
         n = hand_on_member(d.number, d.members, j, k, g, out, n);
-        left = without_member(left, j);
+        remaining = without_member(remaining, j);
     }
     n
 }

@@ -4,7 +4,7 @@ use mathlib.Core.Path.{_≡_, ap, _∙_}
 use native.Mathlib.Nat.{one-mul, le-of-eq, le-trans}
 use native.Mathlib.Omega.{arith}
 use lib.Pow.{shl-exact}
-use Rattle.rig_members.specs.Walk.{wordBits, without}
+use Rattle.rig_members.specs.Walk.{wordBits, withoutMember}
 use Rattle.rig_members.proofs.Members.{Placed, member-placed}
 use Rattle.rig_members.proofs.without_member.Statement.{statement}
 use Rattle.rig_members.proofs.without_member.Tie as tie
@@ -27,7 +27,7 @@ sub-result-2 c =
     le-trans (le-of-eq (bit p)) (p .least)
 
 returns : tie.Need-returns
-unfolding without
+unfolding withoutMember
 returns c = ap (λ b. c .args .set - b) (bit (member-placed wordBits (c .args .set) (c .args .j) (omega arith) (c .pre)))
 
 pub without-member-spec : {M : Type 1} → statement M

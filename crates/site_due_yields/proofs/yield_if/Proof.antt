@@ -18,20 +18,20 @@ mul-g c = search needs
 element-copy-out-g : tie.Need-element-copy-out-g
 element-copy-out-g c = search needs
 
-mul-must-yield : tie.Need-mul-must-yield
-mul-must-yield c = search needs
+mul-is-due : tie.Need-mul-is-due
+mul-is-due c = search needs
 
-element-copy-out-must-yield : tie.Need-element-copy-out-must-yield
-element-copy-out-must-yield c = search needs
+element-copy-out-is-due : tie.Need-element-copy-out-is-due
+element-copy-out-is-due c = search needs
 
-must-yield-requires : tie.Need-must-yield-requires
-must-yield-requires c κs = search needs
+is-due-requires : tie.Need-is-due-requires
+is-due-requires c κs = search needs
 
 returns : tie.Need-returns
 returns c d number members =
     let a = c .before .before .before .before .args in
     let in-set = c .before .before .before .before .pre .0 in
-    let must = c .before .must-yield .ensures in
+    let must = c .before .is-due .ensures in
     rw (passed d (entries (now (a .held)) (now (a .heir)) (now (a .inquired))) (a .i) members in-set (sym must ∙ not-true _ (c .if1 .taken))) (carries-sent sent-none)
 
 mul-held : tie.Need-mul-held
@@ -65,7 +65,7 @@ returns-2 : tie.Need-returns-2
 returns-2 c d number members =
     let a = c .before .before .before .before .before .before .before .before .args in
     let in-set = c .before .before .before .before .before .before .before .before .pre .0 in
-    let must = c .before .before .before .before .before .must-yield .ensures in
+    let must = c .before .before .before .before .before .is-due .ensures in
     rw (gone d (entries (now (a .held)) (now (a .heir)) (now (a .inquired))) (a .i) members in-set number (sym must ∙ not-false _ (c .before .before .before .before .if1 .left))) (carries-sent (sent-one (c .before .before .yielding .ensures) (c .before .append .ensures)))
 
 pub yield-if-spec : {M : Type 1} → statement M
@@ -75,9 +75,9 @@ yield-if-spec =
     add-j
     mul-g
     element-copy-out-g
-    mul-must-yield
-    element-copy-out-must-yield
-    must-yield-requires
+    mul-is-due
+    element-copy-out-is-due
+    is-due-requires
     returns
     mul-held
     element-write-held

@@ -33,43 +33,32 @@ loop-holds c =
 lowest-member-requires : tie.Need-lowest-member-requires Inv-loop μ-loop
 lowest-member-requires c κs = search needs
 
-sub-g : tie.Need-sub-g Inv-loop μ-loop
-sub-g c = omega (arith, turn (c .before .before .loop .inv .0) (omega arith) (c .lowest-member .ensures) .next)
-
-mul-g : tie.Need-mul-g Inv-loop μ-loop
-mul-g c =
-    let u = turn (c .before .before .loop .inv .0) (omega arith) (c .lowest-member .ensures) in
-    omega (arith, u .next, u .high)
-
-element-copy-out-g : tie.Need-element-copy-out-g Inv-loop μ-loop
-element-copy-out-g c =
-    let u = turn (c .before .before .loop .inv .0) (omega arith) (c .lowest-member .ensures) in
-    omega (arith, u .next, u .high)
-
 member-held-requires : tie.Need-member-held-requires Inv-loop μ-loop
-member-held-requires c κs = turn (c .before .before .before .loop .inv .0) (omega arith) (c .before .lowest-member .ensures) .visits
+member-held-requires c κs =
+    let u = turn (c .before .before .before .before .loop .inv .0) (omega arith) (c .before .before .lowest-member .ensures) in
+    (u .visits, record { low = omega (arith, u .next); high = omega (arith, u .high) })
 
 returns : tie.Need-returns Inv-loop μ-loop
 unfolding allHeld
 returns c =
-    let d = c .before .before .before .before .before .before .before .args .t1 in
-    let u = turn (c .before .before .before .before .before .loop .inv .0) (omega arith) (c .before .before .before .lowest-member .ensures) in
-    let free : heldIf d _ ≡ false = held-member d _ (omega (arith, u .next)) (u .visits) (c .before .member-held .ensures) ∙ not-true _ (c .if1 .taken) in
+    let d = c .before .before .before .before .before .before .before .before .args .t1 in
+    let u = turn (c .before .before .before .before .before .before .loop .inv .0) (omega arith) (c .before .before .before .before .lowest-member .ensures) in
+    let free : heldIf d _ ≡ false = held-member d _ (u .visits) (c .before .member-held .ensures) ∙ not-true _ (c .if1 .taken) in
     sym (all-fails (heldIf d) (d .size) _ (omega (arith, u .next)) (u .high) free)
 
 without-member-requires : tie.Need-without-member-requires Inv-loop μ-loop
-without-member-requires c κs = turn (c .before .before .before .before .before .loop .inv .0) (omega arith) (c .before .before .before .lowest-member .ensures) .takes
+without-member-requires c κs = turn (c .before .before .before .before .before .before .loop .inv .0) (omega arith) (c .before .before .before .before .lowest-member .ensures) .takes
 
 loop-less : tie.Need-loop-less Inv-loop μ-loop
-loop-less c = turn-less (turn (c .before .before .before .before .before .before .loop .inv .0) (omega arith) (c .before .before .before .before .lowest-member .ensures)) (c .without-member .ensures)
+loop-less c = turn-less (turn (c .before .before .before .before .before .before .before .loop .inv .0) (omega arith) (c .before .before .before .before .before .lowest-member .ensures)) (c .without-member .ensures)
 
 loop-again : tie.Need-loop-again Inv-loop μ-loop
 unfolding all
 loop-again c =
-    let d = c .before .before .before .before .before .before .before .before .args .t1 in
-    let l = c .before .before .before .before .before .before .loop in
-    let u = turn (c .before .before .before .before .before .before .loop .inv .0) (omega arith) (c .before .before .before .before .lowest-member .ensures) in
-    let held = held-member d _ (omega (arith, u .next)) (u .visits) (c .before .before .member-held .ensures) ∙ not-false _ (c .before .if1 .left) in
+    let d = c .before .before .before .before .before .before .before .before .before .args .t1 in
+    let l = c .before .before .before .before .before .before .before .loop in
+    let u = turn (c .before .before .before .before .before .before .before .loop .inv .0) (omega arith) (c .before .before .before .before .before .lowest-member .ensures) in
+    let held = held-member d _ (u .visits) (c .before .before .member-held .ensures) ∙ not-false _ (c .before .if1 .left) in
     rw (walk-next (all (heldIf d)) (d .size) (d .members) (held-idle d) u (c .without-member .ensures)) (turn-again u (c .without-member .ensures), and-true _ _ (l .inv .1) (rw (u .next) at held))
 
 returns-2 : tie.Need-returns-2 Inv-loop μ-loop
@@ -87,9 +76,6 @@ all-held-spec =
     members-within-requires
     loop-holds
     lowest-member-requires
-    sub-g
-    mul-g
-    element-copy-out-g
     member-held-requires
     returns
     without-member-requires

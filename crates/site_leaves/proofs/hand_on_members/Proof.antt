@@ -16,11 +16,11 @@ use Rattle.site_leaves.proofs.hand_on_members.Statement.{statement}
 use Rattle.site_leaves.proofs.hand_on_members.Tie as tie
 
 abbrev Inv-loop : tie.InvT-loop
-Inv-loop out₀ n₀ d left₀ n₁ out left n =
-    Walk (d .size) (d .members) left × Appends (handOns d (passedTo (d .size) left)) n₀ out₀ out n × (length out ≡ length out₀)
+Inv-loop out₀ n₀ d remaining₀ n₁ out remaining n =
+    Walk (d .size) (d .members) remaining × Appends (handOns d (passedTo (d .size) remaining)) n₀ out₀ out n × (length out ≡ length out₀)
 
 abbrev μ-loop : tie.MeasureT-loop
-μ-loop out₀ n₀ d left₀ n₁ out left n = membersLeft (d .size) left
+μ-loop out₀ n₀ d remaining₀ n₁ out remaining n = membersLeft (d .size) remaining
 
 members-within-requires : tie.Need-members-within-requires Inv-loop μ-loop
 members-within-requires c κs = search needs
@@ -68,7 +68,7 @@ hand-on-member-requires c κs =
     let j = c .before .before .before .lowest-member .result in
     let u = turn (c .before .before .before .before .before .loop .inv .0) (omega arith) (c .before .before .before .lowest-member .ensures) in
     let low : 1 ≤ j = omega (arith, u .next) in
-    let short = handOns-short (s .args .t1) (passedTo (s .args .t1 .size) (l .left)) in
+    let short = handOns-short (s .args .t1) (passedTo (s .args .t1 .size) (l .remaining)) in
     (u .visits, rw (← (at-read 0 (s .args .t1 .held) j low)) (s .pre .held j low (omega (arith, u .high))), omega (arith, u .next, u .high, l .inv .1 .count))
 
 without-member-requires : tie.Need-without-member-requires Inv-loop μ-loop
@@ -84,7 +84,7 @@ loop-again c =
     let d = c .before .before .before .before .before .before .before .before .before .before .args .t1 in
     let u = turn (c .before .before .before .before .before .before .before .before .loop .inv .0) (omega arith) (c .before .before .before .before .before .before .lowest-member .ensures) in
     let t = c .before .before .hand-on-member in
-    let i = passedTo (d .size) (l .left) in
+    let i = passedTo (d .size) (l .remaining) in
     rw (walk-next (handOns d) (d .size) (d .members) (handOns-idle d) u (c .without-member .ensures), handOns-more d i (rw (u .next) at (u .visits)))
     (turn-again u (c .without-member .ensures), sent-more (l .inv .1) (rw (u .index, u .next) at (t .ensures)), t .kept .1 .1 .1 .1 .1 .0 ∙ l .inv .2)
 
