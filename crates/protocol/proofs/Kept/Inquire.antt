@@ -20,6 +20,13 @@ use Rattle.protocol.proofs.Sending.{take-quiet}
 use Rattle.protocol.proofs.Owing.{ascending-low}
 use Rattle.protocol.proofs.Kept.Yielded.{yielded-kept, yielder-owns}
 
+-- two steps of arithmetic, apart from the rule, where `omega` would read all that is known there
+not-above : (n h g : ℕ) → n ≡ h → n ≤ g → h ≤ g
+not-above n h g e l = omega arith
+
+same : (n g h a : ℕ) → g ≡ n → h ≡ g + a → a ≡ 0 → n ≡ h
+same n g h a p q r = omega arith
+
 module _ (p : Setting) where
   -- the rule
   pub onInquire-kept : (t : Local) (b n : ℕ) (ms : List Message) → Invariant p (view t (inquire b n ∷ ms)) → Invariant p (onInquire (view t ms) b n)
@@ -40,13 +47,13 @@ module _ (p : Setting) where
       (λ h. rw (e, h) (remember w c ok up ascending (λ i j. absurd (j (eqb-true (t.held b) 0 h)))))
       (λ h. by-bool (eqb n (t.held b))
       (λ i. let hn = eqb-true n (t.held b) i in by-bool (t.failed b)
-      (λ f. rw (e, h, i, f) (let y = yielder-owns p t o b ms c (eqb-false (t.held b) 0 h) (omega arith) in yielded-kept p t o b ms (y .0) (y .1) (y .2) w c (λ k ne. s .inquiriesFit k) (λ k ne. s .owed .failOwed k) ascending))
+      (λ f. rw (e, h, i, f) (let y = yielder-owns p t o b ms c (eqb-false (t.held b) 0 h) (not-above n (t.held b) t.grant hn (ok .1)) in yielded-kept p t o b ms (y .0) (y .1) (y .2) w c (λ k ne. s .inquiriesFit k) (λ k ne. s .owed .failOwed k) ascending))
       (λ f. rw (e, h, i, f) (remember w c ok up ascending (λ x y. (hn, f)))))
       (λ i. rw (e, h, i) (ignore c ascending (λ ob d0 known ng.
       let own = c .column .holds b (eqb-false (t.held b) 0 h) in
       let nu : t.held o.owner ≡ t.grant + o.ahead = c .column .number (own .1) in
       let hb : t.held b ≡ t.grant + o.ahead = rw (own .0) nu in
-      eqb-false n (t.held b) i (omega arith))))))
+      eqb-false n (t.held b) i (same n t.grant (t.held b) o.ahead ng hb d0))))))
       (λ e. rw e (ignore c ascending (λ ob d0 known ng. eqb-false (t.mode b) WAITING e (rw ob at (c .asks .knownWaits o.owner known .0)))))
     where
       -- the inquire was not the one that is owed
