@@ -1,19 +1,19 @@
 // Callers of the calls that print a line, each on a page of spaces: each promise follows from the contracts of those calls alone.
 use list_rows::Rows;
 use player_lines::line;
-use player_playing::Playing;
 use player_playing::finish;
 use player_printing::PAGE_LENGTH;
 use player_printing::Page;
 use player_printing::step_line;
 use player_printing::stop_line;
+use player_state::Playing;
 use player_text::Player;
 use rig::Tables;
 ghost use mathlib.Core.Path.{_≡_};
 ghost use Rattle.player_printing.specs.Printing.{stepLine, stopLine};
 ghost use Rattle.player_text.specs.Player.{onLine, onEnd};
 ghost use Rattle.player_text.specs.Calls.{before, PlayerFits};
-ghost use Rattle.player_playing.specs.State.{known, cutLine};
+ghost use Rattle.player_state.specs.State.{known, cutLine};
 ghost use Rattle.client_pages.specs.Spaced.{spaced, OnPage};
 
 // The player after a line, and the page with what it printed.

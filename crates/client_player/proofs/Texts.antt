@@ -16,7 +16,7 @@ use Rattle.player_text.specs.Player.{Text, onEnd, start, transcript, output}
 use Rattle.player_parts.specs.Parts.{Part, reads}
 use Rattle.player_parts.proofs.Long.{transcript-over}
 use Rattle.player_reading.specs.Reading.{ReadTo, AllOrFull}
-use Rattle.player_playing.specs.State.{overAt}
+use Rattle.player_state.specs.State.{overAt}
 use Rattle.client_player.specs.Told.{Tells}
 use Rattle.client_player.proofs.Parts.{Goes}
 

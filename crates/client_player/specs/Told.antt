@@ -7,7 +7,7 @@ use lib.ListN.{length, take, drop}
 use Rattle.player_printing.specs.Printing.{pageLength}
 use Rattle.player_text.specs.Player.{start, output}
 use Rattle.player_parts.specs.Parts.{reads}
-use Rattle.player_playing.specs.State.{overAt}
+use Rattle.player_state.specs.State.{overAt}
 use Rattle.client_player.specs.declared.Told.{Told}
 
 -- Of the text `taken` bytes are read. The first `written` bytes of what the text prints stand at the front of the output, and the bytes behind

@@ -1,15 +1,16 @@
 // Callers of the player's calls: each promise follows from the contracts of those calls alone.
 use player_bytes::put_word;
 use player_playing::Played;
-use player_playing::Playing;
-use player_playing::begin;
 use player_playing::finish;
-use player_playing::is_over;
 use player_playing::part;
 use player_printing::PAGE_LENGTH;
+use player_state::Playing;
+use player_state::begin;
+use player_state::is_over;
 ghost use Prim.Native.Nat.{_≤_};
 ghost use lib.ListN.{length};
-ghost use Rattle.player_playing.specs.State.{PlayingFits, LeavesPlayed, Continues};
+ghost use Rattle.player_state.specs.State.{PlayingFits};
+ghost use Rattle.player_playing.specs.Played.{LeavesPlayed, Continues};
 ghost use Rattle.client_player.specs.Told.{Tells};
 
 // What playing a whole text answers: the bytes of the text that are read, those of the output that are written, whether the run has ended,

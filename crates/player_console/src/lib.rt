@@ -2,15 +2,15 @@
 // to the player as it comes, in buffers of a fixed size.
 use libc::STDOUT_FILENO;
 use player_playing::Played;
-use player_playing::Playing;
-use player_playing::begin;
 use player_playing::finish;
-use player_playing::is_over;
 use player_playing::part;
 use player_printing::PAGE_LENGTH;
+use player_state::Playing;
+use player_state::begin;
+use player_state::is_over;
 ghost use Prim.Native.Nat.{_≤_};
 ghost use lib.ListN.{length};
-ghost use Rattle.player_playing.specs.State.{PlayingFits};
+ghost use Rattle.player_state.specs.State.{PlayingFits};
 
 // How many bytes are read at once, and how many are written at once.
 const INPUT: usize = 8_192;

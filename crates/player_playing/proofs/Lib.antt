@@ -1,5 +1,2 @@
--- Laws of the player's own state.
-pub mod FieldRead
-pub mod Fields
-pub mod First
+-- Laws of a part of a text.
 pub mod Parts

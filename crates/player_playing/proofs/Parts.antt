@@ -9,8 +9,8 @@ use Rattle.player_text.specs.Player.{Text, transcript}
 use Rattle.player_parts.specs.Parts.{Part}
 use Rattle.player_parts.proofs.Cuts.{reads-transcript}
 use Rattle.player_reading.specs.Reading.{ReadTo}
-use Rattle.player_playing.specs.declared.Playing.{Playing}
-use Rattle.player_playing.specs.State.{cutLine}
+use Rattle.player_state.specs.declared.Playing.{Playing}
+use Rattle.player_state.specs.State.{cutLine}
 
 -- a line that is held is no longer than `lineLimit`
 pub held-short : (s : Playing) → s .held ≤ lineLimit → length (cutLine s) ≤ lineLimit

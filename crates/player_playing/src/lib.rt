@@ -1,112 +1,26 @@
-// The player's own state between two parts of a text.
-use list_rows::Rows;
+// A part of a text played, and the end of the input.
 use player_cuts::LINE_ROOM;
 use player_printing::Page;
 use player_reading::read_part;
-use player_text::Player;
-use player_text::Stage;
-use rig::Message;
-use rig::Rig;
-use rig::Tables;
+use player_state::Playing;
+use player_state::held_of;
+use player_state::line_of;
+use player_state::list_of;
+use player_state::player_of;
+use player_state::state_of;
+use player_state::tables_of;
 ghost use Prim.Native.Nat.{min};
 ghost use mathlib.Core.Path.{_≡_};
-ghost use mathlib.Core.List.{[]};
-ghost use Rattle.list_rows.specs.Rows.{ZeroPast};
-ghost use Rattle.list_rows.specs.State.{stored};
 ghost use Rattle.player_text.specs.Player.{onEnd};
-ghost use Rattle.player_text.specs.Calls.{FitsEvents};
 ghost use Rattle.player_printing.specs.Printing.{Printed};
-ghost use Rattle.player_playing.specs.State.{lineRoom, known, cutLine, PlayingFits, firstPlaying, resumed, resumedPlaying, overAt, LeavesPlayed, Continues};
-
-// The player with all that it needs between two parts of a text: what it knows, the rig's tables, its list of messages, and the bytes
-// of the line that the end of a part cut. Nobody outside makes or changes one.
-pub struct Playing {
-    player: Player,
-    tables: Tables,
-    list: Rows,
-    line: [u8; LINE_ROOM],
-    held: usize,
-}
+ghost use Rattle.player_state.specs.State.{lineRoom, known, cutLine, PlayingFits};
+ghost use Rattle.player_playing.specs.Played.{LeavesPlayed, Continues};
 
 // The player after a part of a text, the bytes of the part that it read, and those of the output that it wrote.
 pub struct Played {
     pub playing: Playing,
     pub taken: usize,
     pub written: usize,
-}
-
-// What the player knows of its text, with its rig and how many messages are under way.
-pub fn player_of(s: Playing) -> Player
-    ensures { λ r. ⌜ r ≡ s .player ⌝ }
-{
-    s.player
-}
-
-// Two fields, and a state made of its fields. Only these three functions read an array of arrays in a state or write one out as a
-// literal: Rattle does not walk either, and their proofs are by hand.
-pub fn tables_of(s: Playing) -> Tables
-    ensures { λ r. ⌜ r ≡ s .tables ⌝ }
-{
-    s.tables
-}
-
-pub fn list_of(s: Playing) -> Rows
-    ensures { λ r. ⌜ r ≡ s .list ⌝ }
-{
-    s.list
-}
-
-fn made_of(
-    player: Player,
-    tables: Tables,
-    list: Rows,
-    line: [u8; LINE_ROOM],
-    held: usize,
-) -> Playing
-    ensures { λ r. ⌜ r ≡ record { player = player; tables = tables; list = list; line = line; held = held } ⌝ }
-{
-    Playing {
-        player: player,
-        tables: tables,
-        list: list,
-        line: line,
-        held: held,
-    }
-}
-
-// Before the first line.
-pub fn begin() -> Playing
-    ensures { λ r. ⌜ r ≡ firstPlaying ⌝ }
-    ensures { λ r. ⌜ PlayingFits r ⌝ }
-{
-    let player = player_text::begin();
-    let tables = Rig::blank();
-    let list = [[0u64; Message::FIELDS]; Rig::MESSAGES];
-    let line = [0u8; LINE_ROOM];
-    made_of(player, tables, list, line, 0)
-}
-
-// An inner call: before the first line of a text that goes on from a state: lines of events alone. The state need not be one of a run. Where
-// `tested`, it and each later one is tested before an event; else it is one on which no event is refused with 10, and so is each later one.
-pub fn going_on(rig: Rig, tables: &Tables, list: &Rows, count: usize, tested: bool) -> Playing
-    requires { ⌜ FitsEvents tested (stored rig (now tables) (now list) count) × ZeroPast count (now list) ⌝ }
-    ensures { λ r. ⌜ r ≡ resumedPlaying rig (now (tables .entry)) (now (list .entry)) count tested ⌝ }
-    ensures { λ r. ⌜ (known r ≡ resumed (stored rig (now (tables .entry)) (now (list .entry)) count)) × (cutLine r ≡ []) × PlayingFits r ⌝ }
-{
-    let sets = rig.sets;
-    let player = Player {
-        stage: Stage::Events,
-        line: 0,
-        step: 0,
-        size: rig.size,
-        given: rig.size,
-        sets: sets,
-        rig: rig,
-        count: count,
-        tested: tested,
-    };
-    let line = [0u8; LINE_ROOM];
-    made_of(player, *tables, *list, line, 0)
 }
 
 // Plays a part of a text. It reads all of it, or stops where the output has less room left than a page: with less from the start it may read
@@ -118,30 +32,16 @@ pub fn part(s: Playing, given: &[u8], out: &mut [u8]) -> Played
 {
     let mut tables = tables_of(s);
     let mut list = list_of(s);
-    let player = s.player;
-    let line = s.line;
-    let r = read_part(player, &mut tables, &mut list, line, s.held, given, out);
+    let player = player_of(s);
+    let line = line_of(s);
+    let r = read_part(player, &mut tables, &mut list, line, held_of(s), given, out);
     let next = r.player;
     let cut = r.line;
-    let playing = made_of(next, tables, list, cut, r.held);
+    let playing = state_of(next, tables, list, cut, r.held);
     Played {
         playing: playing,
         taken: r.from,
         written: r.at,
-    }
-}
-
-// The run has ended: no later line is played.
-pub fn is_over(s: Playing) -> bool
-    ensures { λ r. ⌜ r ≡ overAt (s .player .stage) ⌝ }
-{
-    let player = s.player;
-    let stage = player.stage;
-    match stage {
-        Stage::Size => false,
-        Stage::Sets => false,
-        Stage::Events => false,
-        Stage::Over => true,
     }
 }
 
@@ -156,8 +56,9 @@ fn at_most_room(held: usize) -> usize
 pub fn finish(s: Playing, page: &mut Page) -> usize
     ensures { λ r. ⌜ Printed (onEnd (known s) (cutLine s)) (now (page .entry)) (now (page .exit)) r ⌝ }
 {
-    let player = s.player;
-    let line = s.line;
-    let held = at_most_room(s.held);
+    let player = player_of(s);
+    let line = line_of(s);
+    let kept = held_of(s);
+    let held = at_most_room(kept);
     player_lines::finish(player, page, &line[..held])
 }

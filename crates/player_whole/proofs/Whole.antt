@@ -6,8 +6,8 @@ use denote.Ref.{now}
 use Prim.Native.Nat.{ℕ}
 use Rattle.player_text.specs.Player.{Text, onEnd, transcript, output}
 use Rattle.player_text.proofs.Start.{begins-at-start}
-use Rattle.player_playing.specs.declared.Playing.{Playing}
-use Rattle.player_playing.specs.State.{known, cutLine, firstPlaying}
+use Rattle.player_state.specs.declared.Playing.{Playing}
+use Rattle.player_state.specs.State.{known, cutLine, firstPlaying}
 use Rattle.player_whole.specs.Whole.{readBy, writtenBy, InOrder, WholeText, WholeTextFrom}
 
 pub whole-text-from : WholeTextFrom

@@ -6,9 +6,10 @@ use lib.ListN.{take}
 use denote.Ref.{now}
 use Rattle.list_rows.specs.State.{Lent}
 use Rattle.player_text.specs.Player.{onEnd, transcript, output}
-use Rattle.player_playing.specs.declared.Playing.{Playing}
+use Rattle.player_state.specs.declared.Playing.{Playing}
 use Rattle.player_playing.specs.declared.Played.{Played}
-use Rattle.player_playing.specs.State.{known, cutLine, firstPlaying, Continues}
+use Rattle.player_state.specs.State.{known, cutLine, firstPlaying}
+use Rattle.player_playing.specs.Played.{Continues}
 
 -- one call of `part`: what it is given and lent, and its answer
 pub record Call : Type 0 where

@@ -3,7 +3,7 @@
 use libc::STDERR_FILENO;
 use libc::STDOUT_FILENO;
 use player_console::play_on;
-use player_playing::begin;
+use player_state::begin;
 use save_text::LONGEST;
 use state_input::save_on;
 use state_resuming::resume;

@@ -3,13 +3,13 @@ use libc::STDOUT_FILENO;
 use player_console::read_room;
 use player_console::read_some;
 use player_playing::Played;
-use player_playing::Playing;
-use player_playing::is_over;
 use player_playing::part;
+use player_state::Playing;
+use player_state::is_over;
 use save_text::LONGEST;
 use state_saving::save_end;
 use state_text::last_line;
-ghost use Rattle.player_playing.specs.State.{PlayingFits};
+ghost use Rattle.player_state.specs.State.{PlayingFits};
 
 // How many bytes are read at once, and room for what they print.
 const INPUT: usize = 8_192;

@@ -17,7 +17,7 @@ use Rattle.model.specs.Shape.{wellShaped}
 use Rattle.model.specs.Event.{padded}
 use Rattle.model.proofs.Shaped.{shaped}
 use Rattle.model_shaped.specs.Kept.{allGranted, HeldRows}
-use Rattle.player_playing.specs.State.{firstPlaying}
+use Rattle.player_state.specs.State.{firstPlaying}
 use Rattle.player_text.specs.Calls.{FitsEvents}
 use Rattle.save_entries.specs.Entries.{rowUpTo, rowFrom}
 use Rattle.save_lines.specs.Lines.{linesIn}

@@ -3,7 +3,7 @@ use mathlib.Core.List.{[]}
 use mathlib.Core.Option.{Option, none, some}
 use mathlib.Core.Path.{_≡_}
 use Rattle.model.specs.State.{Stored}
-use Rattle.player_playing.specs.State.{known, cutLine, firstPlaying, resumed}
+use Rattle.player_state.specs.State.{known, cutLine, firstPlaying, resumed}
 use Rattle.state_resuming.specs.declared.Resumption.{Resumption}
 
 -- by what the text says: nothing, and the code is 14; or a state, and the player goes on from it

@@ -1,14 +1,14 @@
 // A player that goes on from a saved text.
 use engine_parts::blank_rows;
-use player_playing::Playing;
-use player_playing::begin;
-use player_playing::going_on;
+use player_state::Playing;
+use player_state::begin;
+use player_state::going_on;
 use rig::Arbiter;
 use rig::Rig;
 use save_rows::read_rows;
 ghost use mathlib.Core.Path.{_≡_};
 ghost use Rattle.model_shaped.specs.Kept.{hasGranted, allGranted};
-ghost use Rattle.player_playing.specs.State.{PlayingFits};
+ghost use Rattle.player_state.specs.State.{PlayingFits};
 ghost use Rattle.save_text.specs.Reading.{readText};
 ghost use Rattle.state_resuming.specs.Resuming.{Resumes};
 

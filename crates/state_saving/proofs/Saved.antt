@@ -17,8 +17,8 @@ use Rattle.player_printing.proofs.Lines.{wrote-line, printed-part}
 use Rattle.list_rows.specs.State.{stored}
 use Rattle.player_text.specs.declared.Player.{Player}
 use Rattle.player_text.specs.Player.{Text, onEnd}
-use Rattle.player_playing.specs.declared.Playing.{Playing}
-use Rattle.player_playing.specs.State.{known}
+use Rattle.player_state.specs.declared.Playing.{Playing}
+use Rattle.player_state.specs.State.{known}
 use Rattle.state_text.specs.State.{stopText, savedText, isEmpty, atEnd}
 
 pub printed-as : {line other page after : List ℕ} {r : ℕ} → line ≡ other → Printed line page after r → Printed other page after r

@@ -2,19 +2,19 @@
 use list_rows::Rows;
 use player_bytes::put_field;
 use player_bytes::put_word;
-use player_playing::Playing;
 use player_playing::finish;
-use player_playing::list_of;
-use player_playing::player_of;
-use player_playing::tables_of;
 use player_printing::PAGE_LENGTH;
+use player_state::Playing;
+use player_state::list_of;
+use player_state::player_of;
+use player_state::tables_of;
 use rig::Rig;
 use rig::Tables;
 use save_text::TextPage;
 use save_writing::put_state;
 use shape_state::well_shaped;
 ghost use Rattle.list_rows.specs.State.{before};
-ghost use Rattle.player_playing.specs.State.{known, cutLine};
+ghost use Rattle.player_state.specs.State.{known, cutLine};
 ghost use Rattle.player_printing.specs.Printing.{Printed};
 ghost use Rattle.state_text.specs.State.{stopText, savedText, atEnd};
 

@@ -13,8 +13,8 @@ use Rattle.player_text.proofs.Start.{begins-at-start}
 use Rattle.player_parts.specs.Parts.{Part, reads}
 use Rattle.player_parts.proofs.Long.{reads-over}
 use Rattle.player_parts.proofs.Loop.{reads-more}
-use Rattle.player_playing.specs.declared.Playing.{Playing}
-use Rattle.player_playing.specs.State.{known, cutLine, firstPlaying, overAt}
+use Rattle.player_state.specs.declared.Playing.{Playing}
+use Rattle.player_state.specs.State.{known, cutLine, firstPlaying, overAt}
 use Rattle.player_whole.specs.Whole.{Call, readBy, writtenBy, WholeTextFrom}
 use Rattle.player_whole.proofs.Whole.{whole-text-from}
 use Rattle.state_text.specs.State.{lastLine, atEnd, savedAt, saved, savePrints, saveFromPrints, playFromPrints}

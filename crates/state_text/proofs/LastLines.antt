@@ -21,7 +21,7 @@ use Rattle.player_text.specs.declared.Stage.{Stage}
 use Rattle.player_text.specs.declared.Stage.the-variants.{Size, Sets, Events, Over}
 use Rattle.player_text.specs.Player.{Text, Outcome, stopped, sizeIn, setIn, eventIn, onSize, allGiven, onSet, printedLine, onEvent, atStage, onLine}
 use Rattle.player_parts.specs.Parts.{Part, saidBefore, reads}
-use Rattle.player_playing.specs.State.{overAt}
+use Rattle.player_state.specs.State.{overAt}
 use Rattle.state_text.specs.State.{lastFrom, lastLine}
 
 -- whether bytes end with the end of a line, where those before them did

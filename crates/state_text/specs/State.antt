@@ -12,7 +12,7 @@ use Rattle.player_text.specs.declared.Stage.{Stage}
 use Rattle.player_text.specs.declared.Stage.the-variants.{Size, Sets, Events, Over}
 use Rattle.player_text.specs.Player.{Text, onEnd, start, transcript}
 use Rattle.player_parts.specs.Parts.{Part, reads}
-use Rattle.player_playing.specs.State.{resumed}
+use Rattle.player_state.specs.State.{resumed}
 use Rattle.save_text.specs.Text.{textOf}
 
 -- `stop=14`, where a file is no saved text, and `stop=10`, where the state has become misshapen, so that it has no text: a stop without a line

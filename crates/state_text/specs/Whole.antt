@@ -9,8 +9,8 @@ use denote.Ref.{now}
 use Rattle.model.specs.State.{Stored}
 use Rattle.player_text.specs.Player.{onEnd}
 use Rattle.player_parts.specs.Parts.{reads}
-use Rattle.player_playing.specs.declared.Playing.{Playing}
-use Rattle.player_playing.specs.State.{known, cutLine, firstPlaying, resumed, overAt}
+use Rattle.player_state.specs.declared.Playing.{Playing}
+use Rattle.player_state.specs.State.{known, cutLine, firstPlaying, resumed, overAt}
 use Rattle.player_whole.specs.Whole.{Call, readBy, writtenBy, InOrder}
 use Rattle.state_text.specs.State.{lastLine, atEnd, saved, savePrints, saveFromPrints, playFromPrints}
 

@@ -7,7 +7,7 @@ use lib.ListN.{length, take, drop, length-drop, length-replicate}
 use lib.Seq.{length-take-le}
 use borrow.Author.Needs.{needs}
 use Rattle.player_printing.proofs.Lines.{printed-part}
-use Rattle.player_playing.specs.State.{PlayingFits}
+use Rattle.player_state.specs.State.{PlayingFits}
 use Rattle.player_reading.proofs.Turns.{some-read}
 use Rattle.player_console.proofs.play_on.Statement.{statement}
 use Rattle.player_console.proofs.play_on.Tie as tie

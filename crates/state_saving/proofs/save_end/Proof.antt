@@ -2,7 +2,7 @@
 use mathlib.Core.Path.{_∙_}
 use borrow.Author.Needs.{needs}
 use native.Mathlib.Omega.{arith}
-use Rattle.player_playing.specs.State.{known, cutLine}
+use Rattle.player_state.specs.State.{known, cutLine}
 use Rattle.player_printing.proofs.Lines.{printed-part}
 use Rattle.state_saving.proofs.Saved.{printed-as, state-of, some-stop, no-stop, line-copied}
 use Rattle.state_saving.proofs.save_end.Statement.{statement}

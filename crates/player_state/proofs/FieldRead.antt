@@ -32,10 +32,10 @@ use denote.Triple.Clauses.{Ended, Clauses, closing}
 use denote.Triple.Entry.{onEntry}
 use denote.Triple.Spec.{Meets}
 use denote.Triple.Walked.{says, Stays, stay-dropped, walkOf, AllGo, Walks, ends-at, walked, goes-dropped, walk-meets}
-use Rattle.player_playing.specs.declared.Playing.{Playing}
-use Rattle.player_playing.proofs.Fields.{vals, val}
-use Rattle.player_playing.proofs.Playing as P
-use Rattle.player_playing.proofs.Playing.Laws as P′
+use Rattle.player_state.specs.declared.Playing.{Playing}
+use Rattle.player_state.proofs.Fields.{vals, val}
+use Rattle.player_state.proofs.Playing as P
+use Rattle.player_state.proofs.Playing.Laws as P′
 
 -- the struct's fields: their types, and their machine values
 abbrev τs : Tys

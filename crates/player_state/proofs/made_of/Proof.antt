@@ -31,16 +31,16 @@ use denote.Triple.Spec.{Meets, tripleOf}
 use denote.Triple.Table.{entered}
 use denote.Triple.Walked.{says, Stays, stay-dropped, walkOf, AllGo, Walks, ends-at, walked, goes-dropped, walk-meets}
 use Rattle.player_text.specs.declared.Player.{Player}
-use Rattle.player_playing.specs.declared.Playing.{Playing}
-use Rattle.player_playing.proofs.Fields.{vals, val, same, same₂, same₃, tells-like, is-like, Tabs, Rows, Bytes}
+use Rattle.player_state.specs.declared.Playing.{Playing}
+use Rattle.player_state.proofs.Fields.{vals, val, same, same₂, same₃, tells-like, is-like, Tabs, Rows, Bytes}
 use Rattle.player_text.proofs.Player as Y
 use Rattle.player_text.proofs.Player.Laws as Y′
-use Rattle.player_playing.proofs.Playing as P
-use Rattle.player_playing.proofs.Playing.Laws as P′
-use Rattle.player_playing.proofs.made_of.Key.{name as #made-of}
-use Rattle.player_playing.proofs.made_of as made-of
-use Rattle.player_playing.proofs.made_of.Statement as stated
-use Rattle.player_playing.proofs.made_of.Code as code
+use Rattle.player_state.proofs.Playing as P
+use Rattle.player_state.proofs.Playing.Laws as P′
+use Rattle.player_state.proofs.made_of.Key.{name as #made-of}
+use Rattle.player_state.proofs.made_of as made-of
+use Rattle.player_state.proofs.made_of.Statement as stated
+use Rattle.player_state.proofs.made_of.Code as code
 
 -- the slots of the tables, the rows and the bytes
 abbrev tabs : Slot 0

@@ -1,23 +1,18 @@
 -- The player's own state between two parts of a text.
 use Prim.Native.Nat.{ℕ, _+_, _≤_}
 use mathlib.Core.Bool.{Bool, true, false}
-use mathlib.Core.List.{List, _++_}
-use mathlib.Core.Path.{_≡_}
+use mathlib.Core.List.{List}
 use lib.ListN.{replicate, take}
-use denote.Ref.{now}
 use Rattle.rig.specs.declared.Rig.{Rig}
 use Rattle.rig.specs.Limits.{blankTables}
 use Rattle.model.specs.State.{Stored, sizeOf, setsOf}
 use Rattle.list_rows.specs.Rows.{zeroRows}
-use Rattle.list_rows.specs.State.{Lent}
 use Rattle.player_grammar.specs.Grammar.{lineLimit}
 use Rattle.player_text.specs.declared.Stage.{Stage}
 use Rattle.player_text.specs.declared.Stage.the-variants.{Size, Sets, Events, Over}
-use Rattle.player_text.specs.Player.{Text, transcript}
+use Rattle.player_text.specs.Player.{Text}
 use Rattle.player_text.specs.Calls.{text, beginning, PlayerFits}
-use Rattle.player_reading.specs.Reading.{ReadTo, AllOrFull}
-use Rattle.player_playing.specs.declared.Playing.{Playing}
-use Rattle.player_playing.specs.declared.Played.{Played}
+use Rattle.player_state.specs.declared.Playing.{Playing}
 
 -- room for a line of the longest length and one byte more
 abbrev pub lineRoom : ℕ
@@ -60,18 +55,3 @@ overAt Size = false
 overAt Sets = false
 overAt Events = false
 overAt Over = true
-
--- What a part leaves: `ReadTo` of what the player knows and of the line that is cut, before it and after it; and all of it is read, or the
--- output is full.
-abbrev pub LeavesPlayed : Playing → List ℕ → Lent (List ℕ) → Played → Type 0
-LeavesPlayed s given out r =
-    ReadTo (known s) (cutLine s) given (now (out .entry)) (r .taken) (known (r .playing)) (cutLine (r .playing)) (r .written) (now (out .exit))
-    × PlayingFits (r .playing)
-    × AllOrFull given (now (out .entry)) (r .taken) (r .written)
-
--- The same by `transcript`: whatever bytes follow, what the text prints from here on is what the part wrote, and then what it prints from there on.
-abbrev pub Continues : Playing → List ℕ → Lent (List ℕ) → Played → Type 0
-Continues s given out r =
-    (rest : List ℕ) →
-    transcript (known s) (cutLine s) (take (r .taken) given ++ rest)
-    ≡ take (r .written) (now (out .exit)) ++ transcript (known (r .playing)) (cutLine (r .playing)) rest

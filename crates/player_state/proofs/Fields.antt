@@ -10,10 +10,10 @@ use denote.Builtin.{u8, u64}
 use denote.Laws.{Is, Tells}
 use denote.RattleType.{RattleType}
 use denote.Struct.Laws as LL
-use Rattle.player_playing.specs.declared.Playing.{Playing}
-use Rattle.player_playing.specs.State.{lineRoom}
-use Rattle.player_playing.proofs.Playing as P
-use Rattle.player_playing.proofs.Playing.Laws as P′
+use Rattle.player_state.specs.declared.Playing.{Playing}
+use Rattle.player_state.specs.State.{lineRoom}
+use Rattle.player_state.proofs.Playing as P
+use Rattle.player_state.proofs.Playing.Laws as P′
 
 abbrev pub vals : Playing → List Val
 vals = LL.vals P.the-type P′.the-laws

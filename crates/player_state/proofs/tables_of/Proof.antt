@@ -6,14 +6,14 @@ use denote.Builtin.{u64}
 use denote.Struct.Laws as LL
 use denote.Triple.Spec.{tripleOf}
 use denote.Triple.Table.{entered}
-use Rattle.player_playing.proofs.Fields.{vals, same₃}
-use Rattle.player_playing.proofs.FieldRead.{ArrayField, field-meets}
-use Rattle.player_playing.proofs.Playing as P
-use Rattle.player_playing.proofs.Playing.Laws as P′
-use Rattle.player_playing.proofs.tables_of.Key.{name as #tables-of}
-use Rattle.player_playing.proofs.tables_of as tables-of
-use Rattle.player_playing.proofs.tables_of.Statement as stated
-use Rattle.player_playing.proofs.tables_of.Code as code
+use Rattle.player_state.proofs.Fields.{vals, same₃}
+use Rattle.player_state.proofs.FieldRead.{ArrayField, field-meets}
+use Rattle.player_state.proofs.Playing as P
+use Rattle.player_state.proofs.Playing.Laws as P′
+use Rattle.player_state.proofs.tables_of.Key.{name as #tables-of}
+use Rattle.player_state.proofs.tables_of as tables-of
+use Rattle.player_state.proofs.tables_of.Statement as stated
+use Rattle.player_state.proofs.tables_of.Code as code
 
 abbrev field : ArrayField (Array (Array u64 31) 31) 4 1
 field = record {

@@ -1,10 +1,10 @@
 -- `begin`: the parts of the first state.
 use mathlib.Core.Path.{refl}
-use Rattle.player_playing.proofs.First.{begun}
+use Rattle.player_state.proofs.First.{begun}
 use borrow.Author.Needs.{needs}
-use Rattle.player_playing.proofs.begin.Statement.{statement}
-use Rattle.player_playing.proofs.begin.Tie as tie
-use Rattle.player_playing.proofs.made_of.Reads as made-of-reads
+use Rattle.player_state.proofs.begin.Statement.{statement}
+use Rattle.player_state.proofs.begin.Tie as tie
+use Rattle.player_state.proofs.made_of.Reads as made-of-reads
 use Rattle.player_text.proofs.begin.Reads as begin-reads
 use Rattle.rig.proofs.Rig.blank.Reads as blank-reads
 
