@@ -27,7 +27,8 @@ use Rattle.engine.proofs.Joined.{same-read}
 use Rattle.save_text.specs.Text.{textOf, textIn, fieldsIn}
 use Rattle.save_text.specs.Reading.{readText}
 use Rattle.save_text.specs.Calls.{written, readInto, orRefused}
-use Rattle.save_rows.specs.Rows.{writtenWith, readCode, ReadsRows}
+use Rattle.save_storing.specs.Buffers.{writtenWith}
+use Rattle.save_rows.specs.Rows.{readCode, ReadsRows}
 use Rattle.save.specs.Start.{readFrom}
 
 -- the text of a state depends on those messages of its list that are under way

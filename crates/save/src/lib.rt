@@ -8,14 +8,14 @@ use rig::Answer;
 use rig::Message;
 use rig::Rig;
 use rig::Tables;
-use save_rows::Saved;
 use save_rows::read_rows;
-use save_rows::write_rows;
+use save_storing::Saved;
+use save_storing::write_rows;
 ghost use mathlib.Core.Path.{_≡_};
 ghost use Rattle.model.specs.Setup.{noRig};
 ghost use Rattle.model.specs.State.{stored};
 ghost use Rattle.save_text.specs.Calls.{written, readInto};
-ghost use Rattle.save_rows.specs.Rows.{inBuffer};
+ghost use Rattle.save_storing.specs.Buffers.{inBuffer};
 ghost use Rattle.engine.specs.Lent.{before, after};
 ghost use Rattle.save.specs.Start.{readFrom};
 

@@ -1,3 +1,2 @@
--- What writing and reading answer, case by case.
-pub mod Writing
+-- What reading answers, case by case.
 pub mod Reading

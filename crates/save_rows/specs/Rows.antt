@@ -1,4 +1,4 @@
--- The two calls on a list in rows, once its length has been judged.
+-- Reading into a list in rows, once its length has been judged.
 use Prim.Native.Nat.{ℕ}
 use mathlib.Core.Bool.{Bool, true, false, not, cond}
 use mathlib.Core.List.{List}
@@ -11,24 +11,9 @@ use Rattle.rig.specs.Limits.{messageLimit}
 use Rattle.rig.specs.Answers as Answers
 use Rattle.model.specs.Setup.{noRig}
 use Rattle.model.specs.State.{Stored}
-use Rattle.model.specs.Shape.{wellShaped}
 use Rattle.list_rows.specs.Rows.{ZeroPast}
 use Rattle.list_rows.specs.State.{stored}
-use Rattle.save_text.specs.Text.{textOf}
 use Rattle.save_text.specs.Reading.{readText}
-use Rattle.save_text.specs.Calls.{Written, refusedTo, storedIn}
-use Rattle.save_rows.specs.declared.Saved.{Saved}
-
--- what a call of writing answers, with the buffer that it was lent
-abbrev pub inBuffer : Saved → List ℕ → Written
-inBuffer r buffer = record { code = r .code; size = r .length; buffer = buffer }
-
--- "13 first": a state whose list got a code is refused with it; then 10, then 15
-unfoldable pub writtenWith : ℕ → Stored → List ℕ → Written
-writtenWith code s buffer =
-    cond (not (eqb code 0)) (refusedTo buffer code)
-    (cond (not (wellShaped s)) (refusedTo buffer 10)
-    (storedIn buffer (textOf s)))
 
 -- "13 first", then 14 for a text that says nothing
 abbrev pub noneRead : Option Stored → Bool

@@ -58,14 +58,14 @@ use Rattle.engine.proofs.Joined.{code-few, read-in, read-few}
 use Rattle.engine.proofs.Callees.{Tabs, tabs, Five, B, rig-vals, all, arr, ptr-val, slice-val, rows, number, small, known-rows, rows-are, long, full, as-cell, apart, together}
 use Rattle.engine.proofs.Callees.{ListCode, ReadCount, Blank, ToRows, to-code, to-read, to-blank, to-to-rows, said-code, said-read, said-blank, goes-code, goes-read, goes-blank, goes-to-rows}
 use Rattle.save_text.specs.Calls.{written}
-use Rattle.save_rows.specs.declared.Saved.{Saved}
-use Rattle.save_rows.specs.Rows.{inBuffer, writtenWith}
+use Rattle.save_storing.specs.declared.Saved.{Saved}
+use Rattle.save_storing.specs.Buffers.{inBuffer, writtenWith}
 use Rattle.save.proofs.Joined.{written-same}
 use Rattle.rig.proofs.Rig as G
 use Rattle.rig.proofs.Rig.Laws as G′
 use Rattle.rig.proofs.Message as T
-use Rattle.save_rows.proofs.Saved as S
-use Rattle.save_rows.proofs.Saved.Laws as S′
+use Rattle.save_storing.proofs.Saved as S
+use Rattle.save_storing.proofs.Saved.Laws as S′
 use Rattle.engine_parts.proofs.list_code as list-code
 use Rattle.engine_parts.proofs.list_code.Symbol as list-code-def
 use Rattle.engine_parts.proofs.list_code.Symbol.{name as #engine-parts·list-code}
@@ -82,10 +82,10 @@ use Rattle.list_copy.proofs.to_rows as to-rows
 use Rattle.list_copy.proofs.to_rows.Symbol as to-rows-def
 use Rattle.list_copy.proofs.to_rows.Symbol.{name as #list-copy·to-rows}
 use Rattle.list_copy.proofs.to_rows.Met as to-rows-thm
-use Rattle.save_rows.proofs.write_rows as write-rows
-use Rattle.save_rows.proofs.write_rows.Symbol as write-rows-def
-use Rattle.save_rows.proofs.write_rows.Symbol.{name as #save-rows·write-rows}
-use Rattle.save_rows.proofs.write_rows.Met as write-rows-thm
+use Rattle.save_storing.proofs.write_rows as write-rows
+use Rattle.save_storing.proofs.write_rows.Symbol as write-rows-def
+use Rattle.save_storing.proofs.write_rows.Symbol.{name as #save-storing·write-rows}
+use Rattle.save_storing.proofs.write_rows.Met as write-rows-thm
 use Rattle.save.proofs.write.Key.{name as #save·write}
 use Rattle.save.proofs.write as write
 use Rattle.save.proofs.write.Statement as stated
@@ -175,7 +175,7 @@ module _ {M : Type 1} (𝓤 : URA M) (H : Heap 𝓤) (A : Atoms 𝓤) (W : Given
   known-saved : (v : Val) (r : Saved) → Is S.the-row r (v ∷ []) → v ∷ [] ≡ saved-vals r
   known-saved v r is = LL.tells S.the-type S′.the-laws r (v ∷ []) is
 
-  module _ (C : Calls 𝓤 H) (Λ : Loops 𝓤 H) (fm : FmC 𝓤 H (W .laws) C) (known-list-code : Triple 𝓤 (C #engine-parts·list-code) (ListCode 𝓤 H A mem′ run)) (known-read-count : Triple 𝓤 (C #engine-parts·read-count) (ReadCount 𝓤 H A mem′ run)) (known-blank-rows : Triple 𝓤 (C #engine-parts·blank-rows) (Blank 𝓤 H A mem′ run)) (known-to-rows : Triple 𝓤 (C #list-copy·to-rows) (ToRows 𝓤 H A mem′ run)) (known-write-rows : Triple 𝓤 (C #save-rows·write-rows) (WriteRows 𝓤 H A mem′ run)) where
+  module _ (C : Calls 𝓤 H) (Λ : Loops 𝓤 H) (fm : FmC 𝓤 H (W .laws) C) (known-list-code : Triple 𝓤 (C #engine-parts·list-code) (ListCode 𝓤 H A mem′ run)) (known-read-count : Triple 𝓤 (C #engine-parts·read-count) (ReadCount 𝓤 H A mem′ run)) (known-blank-rows : Triple 𝓤 (C #engine-parts·blank-rows) (Blank 𝓤 H A mem′ run)) (known-to-rows : Triple 𝓤 (C #list-copy·to-rows) (ToRows 𝓤 H A mem′ run)) (known-write-rows : Triple 𝓤 (C #save-storing·write-rows) (WriteRows 𝓤 H A mem′ run)) where
     walk : ent 𝓤 (onEntry 𝓤 H A write.signature (κ₀, (κ₁, (κ₂, tt))) (q₀, (q₁, (q₂, tt))) x at) (WpFn 𝓤 H C Λ code.function (only (rig-vals g) ∷ ptr-val t ∷ slice-val xs ∷ vint w64 n ∷ slice-val out ∷ []) Post)
     walk =
         qed W ((‵ (flft κ₀ q₀) ⊛ (‵ (flft κ₁ q₁) ⊛ (‵ (flft κ₂ q₂) ⊛ ‵ ftrue))) ∷ ‵ (owns (G.the-row ∷ ShrRef (named 0) κ₀ Tabs ∷ ShrSlice (named 1) κ₁ T.the-row ∷ usize ∷ MutSlice (named 2) κ₂ u8 ∷ []) x at) ∷ []) ∵
@@ -252,7 +252,7 @@ module _ {M : Type 1} (𝓤 : URA M) (H : Heap 𝓤) (A : Atoms 𝓤) (W : Given
         keep ! (1 ∷ 3 ∷ 0 ∷ 2 ∷ []) $ by ! (exits r₄ (us .1 .1 .1 .1 .1 .0) m₂ (p₄ ∙ written-same g (t .now) (xs .now) n rs (ws .1 .1 .0) (out .now) p₂ p₃) (subst (Is S.the-row r₄) (known-saved v₄ r₄ is₄) is₄))))))))))))))))))))))))))))))))))))))))))))))))
 
 module _ {M : Type 1} (𝓤 : URA M) (H : Heap 𝓤) (A : Atoms 𝓤) (W : Given 𝓤 H A) (mem′ : Memory → SProp 𝓤) (run : Routine → Fun 𝓤) where
-  write-walks : (C : Calls 𝓤 H) (Λ : Loops 𝓤 H) → FmC 𝓤 H (W .laws) C → Triple 𝓤 (C #engine-parts·list-code) (ListCode 𝓤 H A mem′ run) → Triple 𝓤 (C #engine-parts·read-count) (ReadCount 𝓤 H A mem′ run) → Triple 𝓤 (C #engine-parts·blank-rows) (Blank 𝓤 H A mem′ run) → Triple 𝓤 (C #list-copy·to-rows) (ToRows 𝓤 H A mem′ run) → Triple 𝓤 (C #save-rows·write-rows) (WriteRows 𝓤 H A mem′ run)
+  write-walks : (C : Calls 𝓤 H) (Λ : Loops 𝓤 H) → FmC 𝓤 H (W .laws) C → Triple 𝓤 (C #engine-parts·list-code) (ListCode 𝓤 H A mem′ run) → Triple 𝓤 (C #engine-parts·read-count) (ReadCount 𝓤 H A mem′ run) → Triple 𝓤 (C #engine-parts·blank-rows) (Blank 𝓤 H A mem′ run) → Triple 𝓤 (C #list-copy·to-rows) (ToRows 𝓤 H A mem′ run) → Triple 𝓤 (C #save-storing·write-rows) (WriteRows 𝓤 H A mem′ run)
       → Walks 𝓤 H A write.ended stayed (WpFn 𝓤 H C Λ code.function) (write.clauses 𝓤 H A mem′ run)
   write-walks C Λ fm k₀ k₁ k₂ k₃ k₄ = walked 𝓤 H A write.ended stayed (write.clauses 𝓤 H A mem′ run) (WpFn 𝓤 H C Λ code.function)
       (λ κs. (rig-vals, (ptr-vals, (slice-vals, (uint-vals w64, (slice-vals, tt))))))
@@ -276,7 +276,7 @@ module _ {M : Type 1} (𝓤 : URA M) (H : Heap 𝓤) (A : Atoms 𝓤) (W : Given
     ),
   )
 
-write-meets : {M : Type 1} (𝓤 : URA M) (H : Heap 𝓤) (A : Atoms 𝓤) (W : Given 𝓤 H A) (mem′ : Memory → SProp 𝓤) (run : Routine → Fun 𝓤) (𝓣 : Tables 𝓤 H) → Triple 𝓤 (𝓣 .C #engine-parts·list-code) (ListCode 𝓤 H A mem′ run) → Triple 𝓤 (𝓣 .C #engine-parts·read-count) (ReadCount 𝓤 H A mem′ run) → Triple 𝓤 (𝓣 .C #engine-parts·blank-rows) (Blank 𝓤 H A mem′ run) → Triple 𝓤 (𝓣 .C #list-copy·to-rows) (ToRows 𝓤 H A mem′ run) → Triple 𝓤 (𝓣 .C #save-rows·write-rows) (WriteRows 𝓤 H A mem′ run)
+write-meets : {M : Type 1} (𝓤 : URA M) (H : Heap 𝓤) (A : Atoms 𝓤) (W : Given 𝓤 H A) (mem′ : Memory → SProp 𝓤) (run : Routine → Fun 𝓤) (𝓣 : Tables 𝓤 H) → Triple 𝓤 (𝓣 .C #engine-parts·list-code) (ListCode 𝓤 H A mem′ run) → Triple 𝓤 (𝓣 .C #engine-parts·read-count) (ReadCount 𝓤 H A mem′ run) → Triple 𝓤 (𝓣 .C #engine-parts·blank-rows) (Blank 𝓤 H A mem′ run) → Triple 𝓤 (𝓣 .C #list-copy·to-rows) (ToRows 𝓤 H A mem′ run) → Triple 𝓤 (𝓣 .C #save-storing·write-rows) (WriteRows 𝓤 H A mem′ run)
     → Meets 𝓤 H A write.signature (WpFn 𝓤 H (𝓣 .C) (𝓣 .Λ) code.function) (write.spec 𝓤 H A mem′ run)
 write-meets 𝓤 H A W mem′ run 𝓣 k₀ k₁ k₂ k₃ k₄ =
     walk-meets 𝓤 H A write.ended stayed W (goes 𝓤 H A W mem′ run) (write.clauses 𝓤 H A mem′ run)
@@ -292,4 +292,4 @@ write-spec 𝓤 H 𝓜 𝓖 𝓡 =
     (cited 𝓤 H (ReadCount 𝓤 H (𝓖 .A) (𝓜 .mem) (𝓡 .run)) 𝓜 𝓡 code.env #engine-parts·read-count read-count-def.routine code.calls-engine-parts·read-count (read-count-thm.met 𝓤 H 𝓜 𝓖 𝓡))
     (cited 𝓤 H (Blank 𝓤 H (𝓖 .A) (𝓜 .mem) (𝓡 .run)) 𝓜 𝓡 code.env #engine-parts·blank-rows blank-rows-def.routine code.calls-engine-parts·blank-rows (blank-rows-thm.met 𝓤 H 𝓜 𝓖 𝓡))
     (cited 𝓤 H (ToRows 𝓤 H (𝓖 .A) (𝓜 .mem) (𝓡 .run)) 𝓜 𝓡 code.env #list-copy·to-rows to-rows-def.routine code.calls-list-copy·to-rows (to-rows-thm.met 𝓤 H 𝓜 𝓖 𝓡))
-    (cited 𝓤 H (WriteRows 𝓤 H (𝓖 .A) (𝓜 .mem) (𝓡 .run)) 𝓜 𝓡 code.env #save-rows·write-rows write-rows-def.routine code.calls-save-rows·write-rows (write-rows-thm.met 𝓤 H 𝓜 𝓖 𝓡)))
+    (cited 𝓤 H (WriteRows 𝓤 H (𝓖 .A) (𝓜 .mem) (𝓡 .run)) 𝓜 𝓡 code.env #save-storing·write-rows write-rows-def.routine code.calls-save-storing·write-rows (write-rows-thm.met 𝓤 H 𝓜 𝓖 𝓡)))

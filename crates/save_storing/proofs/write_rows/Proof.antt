@@ -3,9 +3,9 @@ use borrow.Author.Needs.{needs}
 use native.Mathlib.Omega.{arith}
 use Rattle.basics.proofs.Tests.{failed, passed}
 use Rattle.player_printing.proofs.Lines.{printed-part}
-use Rattle.save_rows.proofs.Writing.{coded, misshapen, too-short, at-front}
-use Rattle.save_rows.proofs.write_rows.Statement.{statement}
-use Rattle.save_rows.proofs.write_rows.Tie as tie
+use Rattle.save_storing.proofs.Writing.{coded, misshapen, too-short, at-front}
+use Rattle.save_storing.proofs.write_rows.Statement.{statement}
+use Rattle.save_storing.proofs.write_rows.Tie as tie
 
 refused-requires : tie.Need-refused-requires
 refused-requires c κs = search needs

@@ -15,7 +15,7 @@ use Rattle.player_bytes.specs.Wrote.{Wrote}
 use Rattle.player_printing.specs.Printing.{Printed}
 use Rattle.save_text.specs.Text.{textOf}
 use Rattle.save_text.specs.Calls.{refusedTo, storedIn}
-use Rattle.save_rows.specs.Rows.{writtenWith}
+use Rattle.save_storing.specs.Buffers.{writtenWith}
 
 module _ (code : ℕ) (s : Stored) (buffer : List ℕ) where
   pub coded : code ≢ 0 → refusedTo buffer code ≡ writtenWith code s buffer

@@ -1,0 +1,2 @@
+-- What writing answers, case by case.
+pub mod Writing
