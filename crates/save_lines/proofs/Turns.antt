@@ -1,38 +1,16 @@
--- The turns of the two loops: a line's bytes read one by one, and its numbers written one by one.
+-- The turns of the loop: a line's numbers written one by one.
 use Prim.Native.Nat.{ℕ, suc, _+_, _≤_, _<_}
-use mathlib.Core.Bool.{cond}
 use mathlib.Core.List.{List, [], _∷_, _++_}
-use mathlib.Core.Logic.{_≢_}
 use mathlib.Core.Path.{_≡_, ap, _∙_}
 use native.Mathlib.Numerals.{add-one}
 use native.Mathlib.Omega.{arith}
-use borrow.Author.Tests.{eq-eqb, ne-eqb}
-use lib.ListN.{length, take, drop, getD, set, length-append, take-append-drop, drop-of-length-le}
-use lib.Seq.{drop-cons, take-suc, take-take}
-use Rattle.basics.proofs.Basics.{by-bool}
+use lib.ListN.{length, take, drop, getD, length-append, take-append-drop}
+use lib.Seq.{take-suc, take-take}
 use Rattle.player_bytes.specs.Wrote.{Wrote}
 use Rattle.player_bytes.proofs.Stores.{wrote-more}
-use Rattle.player_numbers.specs.Numbers.{isDigit}
 use Rattle.plan_lines.specs.Lines.{listText}
 use Rattle.plan_lines.proofs.Lines.{added, list-more}
-use Rattle.save_lines.specs.Lines.{field, fieldText, grown, numbersFrom}
-
--- what is left of a line, from its byte j on: a comma, another byte, nothing
-module _ (ns : List ℕ) (i : ℕ) (line : List ℕ) (j : ℕ) where
-  pub comma-read : j < length line → getD line j 0 ≡ 44 → numbersFrom ns i (drop j line) ≡ numbersFrom ns (i + 1) (drop (j + 1) line)
-  unfolding numbersFrom
-  comma-read h e = rw (add-one i, add-one j, drop-cons line j 0 h, eq-eqb (getD line j 0) 44 e)
-
-  pub byte-read : j < length line → getD line j 0 ≢ 44
-      → numbersFrom ns i (drop j line) ≡ numbersFrom (cond (isDigit (getD line j 0)) (set ns i (grown (getD ns i 0) (getD line j 0))) ns) i (drop (j + 1) line)
-  unfolding numbersFrom
-  byte-read h e =
-      rw (add-one, drop-cons line j 0 h, ne-eqb (getD line j 0) 44 e)
-      (by-bool (isDigit (getD line j 0)) (λ d. rw d) (λ d. rw d))
-
-  pub line-read : length line ≤ j → numbersFrom ns i (drop j line) ≡ ns
-  unfolding numbersFrom
-  line-read h = rw (drop-of-length-le line {i = j} h)
+use Rattle.save_lines.specs.Lines.{field, fieldText}
 
 -- the length of a line: the word, the numbers, the byte 10
 pub line-length : (w ns : List ℕ) → length (fieldText (field w ns)) ≡ length w + length (listText ns) + 1

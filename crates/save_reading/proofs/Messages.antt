@@ -8,7 +8,7 @@ use lib.Seq.{take-suc, take-all, drop-drop, getD-drop, length-take-le, set-at}
 use Rattle.rig.specs.Limits.{messageLimit}
 use Rattle.list_rows.specs.Rows.{rowOf, zeroRow}
 use Rattle.save_lines.specs.Lines.{linesIn, numbersIn}
-use Rattle.save_lines.proofs.Places.{line-here, line-rest, none-left, some-left}
+use Rattle.save_numbers.proofs.Places.{line-here, line-rest, none-left, some-left}
 use Rattle.save_messages.specs.Messages.{messageFrom}
 use Rattle.save_taking.specs.Places.{lineHere, numbersHere, placeBehind}
 use Rattle.save_reading.specs.Lines.{messagesIn, messageRows}

@@ -6,7 +6,7 @@ use native.Mathlib.Omega.{arith}
 use lib.ListN.{length, drop}
 use lib.Seq.{drop-drop, getD-drop}
 use Rattle.save_lines.specs.Lines.{linesIn, numbersIn}
-use Rattle.save_lines.proofs.Places.{line-here, line-rest}
+use Rattle.save_numbers.proofs.Places.{line-here, line-rest}
 use Rattle.save_text.specs.Reading.{lineAt, numbersAt}
 use Rattle.save_taking.specs.Places.{lineHere, numbersHere}
 use Rattle.save_taking.proofs.Places.{behind-within}

@@ -6,7 +6,7 @@ use rig::Rig;
 use rig::Site;
 use rig::Tables;
 use save_entries::askers;
-use save_lines::Numbers;
+use save_numbers::Numbers;
 use save_taking::Taken;
 use save_taking::set_of;
 use save_taking::size_of;

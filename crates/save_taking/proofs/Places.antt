@@ -6,7 +6,7 @@ use borrow.Author.Tests.{ltb-true}
 use lib.Dec.{ltb}
 use lib.ListN.{length}
 use Rattle.basics.proofs.Basics.{by-bool}
-use Rattle.save_lines.specs.Places.{lineEnd, nextLine}
+use Rattle.save_numbers.specs.Places.{lineEnd, nextLine}
 use Rattle.save_taking.specs.Places.{placeBehind}
 
 pub behind-within : (text : List ℕ) (at : ℕ) → placeBehind text at ≤ length text

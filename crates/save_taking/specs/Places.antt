@@ -3,7 +3,7 @@ use Prim.Native.Nat.{ℕ, _-_}
 use mathlib.Core.List.{List}
 use lib.ListN.{length, take, drop}
 use Rattle.save_lines.specs.Lines.{numbersIn}
-use Rattle.save_lines.specs.Places.{lineEnd, nextLine}
+use Rattle.save_numbers.specs.Places.{lineEnd, nextLine}
 
 -- the line that starts at place `at`, its numbers, and the place where the next line starts
 unfoldable pub lineHere : List ℕ → ℕ → List ℕ

@@ -3,9 +3,9 @@ use denote.Ref.{now}
 use borrow.Author.Needs.{needs}
 use lib.Seq.{take-length}
 use Rattle.bytes.specs.Bytes.{slice}
-use Rattle.save_lines.specs.Places.{lineEnd}
-use Rattle.save_lines.proofs.end_of_line.Statement.{statement}
-use Rattle.save_lines.proofs.end_of_line.Tie as tie
+use Rattle.save_numbers.specs.Places.{lineEnd}
+use Rattle.save_numbers.proofs.end_of_line.Statement.{statement}
+use Rattle.save_numbers.proofs.end_of_line.Tie as tie
 
 find-requires : tie.Need-find-requires
 find-requires c κs = search needs

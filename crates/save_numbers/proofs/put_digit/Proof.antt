@@ -4,9 +4,9 @@ use denote.Ref.{now}
 use lib.ListN.{getD}
 use lib.Seq.{set-out}
 use Rattle.basics.proofs.Tests.{failed, passed}
 use Rattle.save_lines.specs.Lines.{grown}
-use Rattle.save_lines.proofs.put_digit.Statement.{statement}
-use Rattle.save_lines.proofs.put_digit.Tie as tie
+use Rattle.save_numbers.proofs.put_digit.Statement.{statement}
+use Rattle.save_numbers.proofs.put_digit.Tie as tie
 
 is-digit-requires : tie.Need-is-digit-requires
 is-digit-requires c κs = search needs

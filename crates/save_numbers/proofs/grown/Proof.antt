@@ -5,9 +5,9 @@ use native.Mathlib.Omega.{arith}
 use lib.Dec.{leb}
 use Rattle.basics.proofs.Basics.{and-split}
 use Rattle.rig.specs.Limits.{numberLimit}
 use Rattle.save_lines.specs.Lines.{grown}
-use Rattle.save_lines.proofs.grown.Statement.{statement}
-use Rattle.save_lines.proofs.grown.Tie as tie
+use Rattle.save_numbers.proofs.grown.Statement.{statement}
+use Rattle.save_numbers.proofs.grown.Tie as tie
 
 returns : tie.Need-returns
 unfolding grown

@@ -7,10 +7,10 @@ use denote.Ref.{now}
 use native.Mathlib.Omega.{arith}
 use lib.ListN.{length, drop}
 use Rattle.rig.specs.Limits.{siteLimit}
 use Rattle.save_lines.specs.Lines.{numbersFrom, numbersIn}
-use Rattle.save_lines.proofs.Turns.{comma-read, byte-read, line-read}
-use Rattle.save_lines.proofs.numbers_in.Statement.{statement}
-use Rattle.save_lines.proofs.numbers_in.Tie as tie
+use Rattle.save_numbers.proofs.Turns.{comma-read, byte-read, line-read}
+use Rattle.save_numbers.proofs.numbers_in.Statement.{statement}
+use Rattle.save_numbers.proofs.numbers_in.Tie as tie
 
 abbrev Inv-loop : tie.InvT-loop
 Inv-loop line numbers₀ i₀ j₀ j-end numbers i j =

@@ -2,9 +2,9 @@
 use borrow.Author.Needs.{needs}
 use borrow.Author.Tests.{lt-ltb, le-ltb}
 use native.Mathlib.Omega.{arith}
-use Rattle.save_lines.specs.Places.{nextLine}
-use Rattle.save_lines.proofs.next_line.Statement.{statement}
-use Rattle.save_lines.proofs.next_line.Tie as tie
+use Rattle.save_numbers.specs.Places.{nextLine}
+use Rattle.save_numbers.proofs.next_line.Statement.{statement}
+use Rattle.save_numbers.proofs.next_line.Tie as tie
 
 add-result : tie.Need-add-result
 add-result c = search needs

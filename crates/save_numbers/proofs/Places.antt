@@ -9,8 +9,8 @@ use lib.ListN.{length, take, drop, getD, length-drop, drop-of-length-le}
 use lib.Seq.{drop-drop, drop-length}
 use Rattle.basics.proofs.Basics.{by-bool}
 use Rattle.bytes.specs.Bytes.{indexAfter, indexOf}
 use Rattle.save_lines.specs.Lines.{inFront, linesIn}
-use Rattle.save_lines.specs.Places.{lineEnd, nextLine}
+use Rattle.save_numbers.specs.Places.{lineEnd, nextLine}
 
 -- a byte in front of several lines: the first line, and the others
 front-first : (b : ℕ) (ls : List (List ℕ)) → getD (inFront b ls) 0 [] ≡ b ∷ getD ls 0 []

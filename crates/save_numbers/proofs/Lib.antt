@@ -1,0 +1,3 @@
+-- Laws of the lines of a saved text, read.
+pub mod Places
+pub mod Turns
