@@ -7,9 +7,10 @@ use lib.ListN.{replicate}
 use Rattle.rig.specs.Limits.{siteLimit}
 use Rattle.basics.proofs.Basics.{by-bool}
 use Rattle.model.specs.Setup.{setupCode, restingRig, noRig}
-use Rattle.families.specs.declared.Family.{Family}
+use Rattle.family_rules.specs.declared.Family.{Family}
 use Rattle.families.specs.declared.Made.{Made}
-use Rattle.families.specs.Family.{listed, familyCode, made, filled}
+use Rattle.family_rules.specs.Family.{listed}
+use Rattle.families.specs.Made.{familyCode, made, filled}
 use Rattle.setup.specs.Answer.{setupAnswer}
 use Rattle.client_families.specs.Rig.{familyRig}
 

@@ -5,7 +5,8 @@ use Rattle.basics.specs.Helpers.{any}
 use Rattle.model.specs.Sets.{setOf}
 use Rattle.family_billiard.specs.Billiard.{qComputed}
 use Rattle.family_billiard.proofs.Accepted.{nine-site-11, nine-site-34}
-use Rattle.families.specs.Family.{computed, sizeOf, widthOf, entry, billiardSet}
+use Rattle.family_rules.specs.Family.{computed, sizeOf, widthOf, entry}
+use Rattle.families.specs.Made.{billiardSet}
 use Rattle.client_families.specs.Rig.{ofSites, nineSets}
 
 pub set-11 : billiardSet 9 11 ≡ getD nineSets 0 0

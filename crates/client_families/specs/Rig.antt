@@ -3,8 +3,8 @@ use Prim.Native.Nat.{ℕ, _+_, _-_, _^_}
 use mathlib.Core.Bool.{cond}
 use mathlib.Core.List.{List, [], _∷_}
 use Rattle.model.specs.Setup.{freshRig, noRig}
-use Rattle.families.specs.declared.Family.{Family}
-use Rattle.families.specs.Family.{listed, sizeOf, setsOf}
+use Rattle.family_rules.specs.declared.Family.{Family}
+use Rattle.family_rules.specs.Family.{listed, sizeOf, setsOf}
 use Rattle.setup.specs.declared.Answer.{Answer}
 
 -- Setup accepts the sets of every listed family, and makes their fresh rig; "12 if the parameter is not listed", with a rig without sites.

@@ -1,7 +1,7 @@
 // A caller of the calls on families, and of `setup::setup`: each promise follows from their contracts alone.
-use families::Family;
 use families::billiard_set;
 use families::generate;
+use family_rules::Family;
 use rig::Rig;
 use setup::Answer;
 use setup::resting;

@@ -4,8 +4,9 @@ use mathlib.Core.Path.{_≡_}
 use mathlib.Core.Bool.{true, false}
 use borrow.Author.Tests.{eq-eqb, ne-eqb}
 use Rattle.rig.specs.Limits.{siteLimit}
-use Rattle.families.specs.declared.Family.{Family}
-use Rattle.families.specs.Family.{listed, familyCode}
+use Rattle.family_rules.specs.declared.Family.{Family}
+use Rattle.family_rules.specs.Family.{listed}
+use Rattle.families.specs.Made.{familyCode}
 
 module _ (f : Family) (n : ℕ) where
   pub code-13 : (n ≡ siteLimit → ⊥) → familyCode f n ≡ 13

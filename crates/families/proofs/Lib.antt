@@ -1,5 +1,2 @@
--- Laws that belong to no one function.
-pub mod Bounds
-pub mod Parameters
-pub mod Accepted
+-- The codes of a call.
 pub mod Codes

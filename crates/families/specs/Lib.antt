@@ -1,2 +1,2 @@
 -- The four families of request sets.
-pub mod Family
+pub mod Made

@@ -1,6 +1,6 @@
 -- A printed family always sets up.
-use Rattle.families.specs.Family.{sizeOf, setsOf}
-use Rattle.families.proofs.Accepted.{accepted}
+use Rattle.family_rules.specs.Family.{sizeOf, setsOf}
+use Rattle.family_rules.proofs.Accepted.{accepted}
 use Rattle.plan_text.specs.Plan.{familyText}
 use Rattle.plan_read_back.specs.ReadBack.{FamilySetUp}
 use Rattle.plan_read_back.proofs.Texts.{set-up}

@@ -5,8 +5,8 @@ use mathlib.Core.List.{List, [], _++_}
 use mathlib.Core.Path.{_≡_}
 use Rattle.rig.specs.Limits.{siteLimit}
 use Rattle.model.specs.Sets.{names}
-use Rattle.families.specs.declared.Family.{Family}
-use Rattle.families.specs.Family.{listed, sizeOf, setsOf}
+use Rattle.family_rules.specs.declared.Family.{Family}
+use Rattle.family_rules.specs.Family.{listed, sizeOf, setsOf}
 use Rattle.player_grammar.specs.declared.Line.the-variants.{Sites, Set}
 use Rattle.player_grammar.specs.Grammar.{meaningOf}
 use Rattle.player_text.specs.Player.{transcript, output}

@@ -6,9 +6,10 @@ use native.Mathlib.Omega.{arith}
 use lib.ListN.{replicate}
 use Rattle.rig.specs.Limits.{siteLimit}
 use Rattle.basics.proofs.Basics.{by-bool}
-use Rattle.families.specs.declared.Family.{Family}
+use Rattle.family_rules.specs.declared.Family.{Family}
 use Rattle.families.specs.declared.Made.{Made}
-use Rattle.families.specs.Family.{listed, familyCode, made, filled}
+use Rattle.family_rules.specs.Family.{listed}
+use Rattle.families.specs.Made.{familyCode, made, filled}
 use Rattle.plan_lines.specs.Lines.{codeText, setupText}
 use Rattle.plan_text.specs.Plan.{familyText}
 

@@ -5,8 +5,8 @@ use mathlib.Core.Path.{_≡_}
 use Prim.Native.Nat.{ℕ}
 use lib.IntN.{ℤ, pos}
 use Rattle.io.specs.Counts.{Counts}
-use Rattle.families.specs.declared.Family.{Family}
-use Rattle.families.specs.Family.{listed, sizeOf, setsOf}
+use Rattle.family_rules.specs.declared.Family.{Family}
+use Rattle.family_rules.specs.Family.{listed, sizeOf, setsOf}
 use Rattle.plan_lines.specs.Lines.{codeText, setupText}
 use Rattle.player_printing.specs.Printing.{Printed}
 use Rattle.plan_words.specs.declared.Asked.{Asked}

@@ -1,6 +1,6 @@
 // What a command prints: the lines of a family, the line of a refusal, or how to use it.
-use families::Family;
 use families::generate;
+use family_rules::Family;
 use libc::STDERR_FILENO;
 use libc::STDOUT_FILENO;
 use plan_lines::PlanPage;

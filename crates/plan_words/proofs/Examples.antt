@@ -3,7 +3,7 @@ use mathlib.Core.List.{[], _∷_}
 use mathlib.Core.Path.{_≡_, refl}
 use lib.ListN.{replicate}
 use Rattle.player_numbers.specs.Numbers.{allDigits, noLeadingZero, value}
-use Rattle.families.specs.declared.Family.the-variants.{Grid, Billiard, Plane, Levels}
+use Rattle.family_rules.specs.declared.Family.the-variants.{Grid, Billiard, Plane, Levels}
 use Rattle.player_bytes.specs.Same.{same}
 use Rattle.plan_words.specs.Words.{largest, parameter, gridWord, billiardWord, planeWord, levelsWord, ofOne, ofThree, askedBy}
 use Rattle.plan_words.specs.declared.Asked.the-variants.{For, Wrong}

@@ -7,7 +7,7 @@ use Rattle.player_bytes.specs.Same.{same}
 use Rattle.player_numbers.specs.declared.Number.{Number}
 use Rattle.player_numbers.specs.declared.Number.the-variants.{Of, Nothing}
 use Rattle.player_numbers.specs.Numbers.{allDigits, noLeadingZero, value}
-use Rattle.families.specs.declared.Family.the-variants.{Grid, Billiard, Plane, Levels}
+use Rattle.family_rules.specs.declared.Family.the-variants.{Grid, Billiard, Plane, Levels}
 use Rattle.plan_words.specs.declared.Asked.{Asked}
 use Rattle.plan_words.specs.declared.Asked.the-variants.{For, Wrong}
 

@@ -1,5 +1,5 @@
 // What the words of a command ask: `grid 3`, `billiard 7`, `plane 5`, `levels 2 3 5`.
-use families::Family;
+use family_rules::Family;
 use player_bytes::same_bytes;
 use player_numbers::Number;
 use player_numbers::is_digit;

@@ -4,8 +4,9 @@ use borrow.Author.Tests.{eq-eqb, ne-eqb}
 use borrow.Author.Needs.{needs}
 use Rattle.basics.proofs.Basics.{or-second}
 use Rattle.family_billiard.specs.Billiard.{qListed, qComputed}
-use Rattle.families.specs.Family.{listed, computed, billiardSet}
-use Rattle.families.proofs.Parameters.{listed-computed}
+use Rattle.family_rules.specs.Family.{listed, computed}
+use Rattle.families.specs.Made.{billiardSet}
+use Rattle.family_rules.proofs.Parameters.{listed-computed}
 use Rattle.families.proofs.billiard_set.Statement.{statement}
 use Rattle.families.proofs.billiard_set.Tie as tie
 

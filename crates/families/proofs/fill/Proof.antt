@@ -9,8 +9,8 @@ use lib.ListN.{length, take, length-set}
 use borrow.Author.Needs.{needs}
 use Rattle.rig.specs.Limits.{siteLimit}
 use Rattle.family_sets.specs.Rule.{setsUpTo}
-use Rattle.families.specs.Family.{sizeOf, widthOf, entry}
-use Rattle.families.proofs.Parameters.{listed-computed}
+use Rattle.family_rules.specs.Family.{sizeOf, widthOf, entry}
+use Rattle.family_rules.proofs.Parameters.{listed-computed}
 use Rattle.families.proofs.fill.Statement.{statement}
 use Rattle.families.proofs.fill.Tie as tie
 

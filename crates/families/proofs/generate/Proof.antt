@@ -3,9 +3,9 @@ use mathlib.Core.Path.{refl, sym, _∙_}
 use native.Mathlib.Omega.{arith}
 use borrow.Author.Tests.{not-true, not-false}
 use borrow.Author.Needs.{needs}
-use Rattle.families.specs.Family.{made, filled}
-use Rattle.families.proofs.Parameters.{listed-computed}
-use Rattle.families.proofs.Accepted.{accepted}
+use Rattle.families.specs.Made.{made, filled}
+use Rattle.family_rules.proofs.Parameters.{listed-computed}
+use Rattle.family_rules.proofs.Accepted.{accepted}
 use Rattle.families.proofs.Codes.{code-13, code-12, code-0}
 use Rattle.families.proofs.generate.Statement.{statement}
 use Rattle.families.proofs.generate.Tie as tie

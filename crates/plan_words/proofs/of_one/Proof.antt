@@ -5,7 +5,7 @@ use mathlib.Core.List.{List}
 use mathlib.Core.Path.{_≡_, sym, _∙_}
 use borrow.Author.Needs.{needs}
 use denote.Ref.{now}
-use Rattle.families.specs.declared.Family.the-variants.{Grid, Billiard, Plane}
+use Rattle.family_rules.specs.declared.Family.the-variants.{Grid, Billiard, Plane}
 use Rattle.player_bytes.specs.Same.{same}
 use Rattle.plan_words.specs.Words.{gridWord, billiardWord, planeWord, ofOne}
 use Rattle.plan_words.specs.declared.Asked.{Asked}

@@ -2,7 +2,7 @@
 use mathlib.Core.Path.{_≡_, sym, _∙_}
 use borrow.Author.Needs.{needs}
 use denote.Ref.{now}
-use Rattle.families.specs.declared.Family.the-variants.{Levels}
+use Rattle.family_rules.specs.declared.Family.the-variants.{Levels}
 use Rattle.plan_words.specs.Words.{ofThree}
 use Rattle.plan_words.specs.declared.Asked.the-variants.{For}
 use Rattle.plan_words.proofs.of_three.Statement.{statement}

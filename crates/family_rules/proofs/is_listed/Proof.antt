@@ -1,9 +1,9 @@
--- `families::is_listed` meets its contract: one arm for each family.
+-- `family_rules::is_listed` meets its contract: one arm for each family.
 use borrow.Author.Tests.{le-leb, lt-leb, eq-eqb, ne-eqb}
 use borrow.Author.Needs.{needs}
-use Rattle.families.specs.Family.{listed}
-use Rattle.families.proofs.is_listed.Statement.{statement}
-use Rattle.families.proofs.is_listed.Tie as tie
+use Rattle.family_rules.specs.Family.{listed}
+use Rattle.family_rules.proofs.is_listed.Statement.{statement}
+use Rattle.family_rules.proofs.is_listed.Tie as tie
 
 enum-known-family : tie.Need-enum-known-family
 enum-known-family c = search needs

@@ -1,4 +1,4 @@
--- `families::site_set` meets its contract. The loop's invariant: the set so far is that of the members among sites 1 to m.
+-- `family_rules::site_set` meets its contract. The loop's invariant: the set so far is that of the members among sites 1 to m.
 use Prim.Native.Nat.{_≤_, _-_}
 use mathlib.Core.Path.{_≡_, refl, _∙_}
 use native.Mathlib.Nat.{le-antisymm}
@@ -9,10 +9,10 @@ use borrow.Author.Needs.{needs}
 use Rattle.model.specs.Sets.{setOf}
 use Rattle.family_sets.specs.Rule.{setBy}
 use Rattle.family_sets.proofs.Bounds.{set-below}
-use Rattle.families.specs.Family.{hasSite}
-use Rattle.families.proofs.Bounds.{sites-most}
-use Rattle.families.proofs.site_set.Statement.{statement}
-use Rattle.families.proofs.site_set.Tie as tie
+use Rattle.family_rules.specs.Family.{hasSite}
+use Rattle.family_rules.proofs.Bounds.{sites-most}
+use Rattle.family_rules.proofs.site_set.Statement.{statement}
+use Rattle.family_rules.proofs.site_set.Tie as tie
 
 abbrev Inv-loop : tie.InvT-loop
 Inv-loop family n size set₀ m₀ set m = (m ≤ size) × (set ≡ setOf (hasSite family n) m)

@@ -1,14 +1,14 @@
--- `families::size_of` meets its contract: one arm for each family, each product small.
+-- `family_rules::size_of` meets its contract: one arm for each family, each product small.
 use Prim.Native.Nat.{_+_}
 use native.Mathlib.Omega.{arith}
 use borrow.Author.Needs.{needs}
-use Rattle.families.specs.Family.{computed, sizeOf}
+use Rattle.family_rules.specs.Family.{computed, sizeOf}
 use Rattle.basics.proofs.Numbers.{product, square-least}
-use Rattle.families.proofs.Parameters.{side-bounds, p-bounds, sides}
+use Rattle.family_rules.proofs.Parameters.{side-bounds, p-bounds, sides}
 use Rattle.family_levels.proofs.Sides.{level-fits}
 use Rattle.family_billiard.proofs.Parameters.{q-bounds}
-use Rattle.families.proofs.size_of.Statement.{statement}
-use Rattle.families.proofs.size_of.Tie as tie
+use Rattle.family_rules.proofs.size_of.Statement.{statement}
+use Rattle.family_rules.proofs.size_of.Tie as tie
 
 enum-known-family : tie.Need-enum-known-family
 enum-known-family c = search needs

@@ -1,9 +1,9 @@
--- `families::with_site` meets its contract: the bit is new, so that adding it is setting it.
+-- `family_rules::with_site` meets its contract: the bit is new, so that adding it is setting it.
 use native.Mathlib.Nat.{add-zero}
 use native.Mathlib.Omega.{arith}
-use Rattle.families.proofs.Bounds.{bit-most, shifted}
-use Rattle.families.proofs.with_site.Statement.{statement}
-use Rattle.families.proofs.with_site.Tie as tie
+use Rattle.family_rules.proofs.Bounds.{bit-most, shifted}
+use Rattle.family_rules.proofs.with_site.Statement.{statement}
+use Rattle.family_rules.proofs.with_site.Tie as tie
 
 shl-result : tie.Need-shl-result
 shl-result c = omega arith

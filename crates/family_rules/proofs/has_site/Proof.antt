@@ -1,4 +1,4 @@
--- `families::has_site` meets its contract. The loop's invariant: none of the first k entries is the site.
+-- `family_rules::has_site` meets its contract. The loop's invariant: none of the first k entries is the site.
 use Prim.Native.Nat.{_≤_, _-_, _+_}
 use mathlib.Core.Bool.{false}
 use mathlib.Core.Path.{_≡_, refl, sym, _∙_}
@@ -11,9 +11,9 @@ use borrow.Author.Needs.{needs}
 use Rattle.basics.proofs.Basics.{any-of}
 use Rattle.basics.specs.Helpers.{any}
 use Rattle.family_sets.specs.Rule.{isEntry}
-use Rattle.families.specs.Family.{entry}
-use Rattle.families.proofs.has_site.Statement.{statement}
-use Rattle.families.proofs.has_site.Tie as tie
+use Rattle.family_rules.specs.Family.{entry}
+use Rattle.family_rules.proofs.has_site.Statement.{statement}
+use Rattle.family_rules.proofs.has_site.Tie as tie
 
 abbrev Inv-loop : tie.InvT-loop
 Inv-loop family n m width k₀ k = (k ≤ width) × (any (λ i. eqb m (entry family n i)) k ≡ false)

@@ -2,9 +2,9 @@
 use mathlib.Core.Path.{_≡_}
 use mathlib.Core.Bool.{true}
 use Rattle.model.specs.Setup.{setupCode}
-use Rattle.families.specs.declared.Family.{Family}
-use Rattle.families.specs.declared.Family.the-variants.{Grid, Billiard, Plane, Levels}
-use Rattle.families.specs.Family.{listed, sizeOf, widthOf, entry, setsOf}
+use Rattle.family_rules.specs.declared.Family.{Family}
+use Rattle.family_rules.specs.declared.Family.the-variants.{Grid, Billiard, Plane, Levels}
+use Rattle.family_rules.specs.Family.{listed, sizeOf, widthOf, entry, setsOf}
 use Rattle.family_grid.proofs.Accepted as grid
 use Rattle.family_billiard.proofs.Accepted as billiard
 use Rattle.family_plane.proofs.Accepted as plane

@@ -1,9 +1,9 @@
--- `families::set_at` meets its contract.
+-- `family_rules::set_at` meets its contract.
 use borrow.Author.Tests.{le-leb, lt-leb}
 use borrow.Author.Needs.{needs}
 use Rattle.family_sets.specs.Rule.{setBy}
-use Rattle.families.proofs.set_at.Statement.{statement}
-use Rattle.families.proofs.set_at.Tie as tie
+use Rattle.family_rules.proofs.set_at.Statement.{statement}
+use Rattle.family_rules.proofs.set_at.Tie as tie
 
 returns : tie.Need-returns
 unfolding setBy

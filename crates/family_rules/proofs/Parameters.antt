@@ -6,9 +6,9 @@ use Rattle.family_billiard.specs.Billiard.{qComputed}
 use Rattle.family_grid.proofs.Parameters as grid
 use Rattle.family_levels.proofs.Sides as levels
 use Rattle.family_plane.proofs.Parameters as plane
-use Rattle.families.specs.declared.Family.{Family}
-use Rattle.families.specs.declared.Family.the-variants.{Grid, Billiard, Plane, Levels}
-use Rattle.families.specs.Family.{listed, computed}
+use Rattle.family_rules.specs.declared.Family.{Family}
+use Rattle.family_rules.specs.declared.Family.the-variants.{Grid, Billiard, Plane, Levels}
+use Rattle.family_rules.specs.Family.{listed, computed}
 
 pub side-bounds : (s : ℕ) → computed (Grid s) ≡ true → (1 ≤ s) × (s ≤ 5)
 unfolding computed

@@ -1,11 +1,11 @@
--- `families::width_of` meets its contract: one arm for each family.
+-- `family_rules::width_of` meets its contract: one arm for each family.
 use native.Mathlib.Omega.{arith}
 use borrow.Author.Needs.{needs}
-use Rattle.families.specs.Family.{widthOf}
-use Rattle.families.proofs.Parameters.{side-bounds, p-bounds, sides}
+use Rattle.family_rules.specs.Family.{widthOf}
+use Rattle.family_rules.proofs.Parameters.{side-bounds, p-bounds, sides}
 use Rattle.family_levels.proofs.Sides.{level-fits, width-most}
-use Rattle.families.proofs.width_of.Statement.{statement}
-use Rattle.families.proofs.width_of.Tie as tie
+use Rattle.family_rules.proofs.width_of.Statement.{statement}
+use Rattle.family_rules.proofs.width_of.Tie as tie
 
 enum-known-family : tie.Need-enum-known-family
 enum-known-family c = search needs

@@ -5,10 +5,10 @@ use mathlib.Core.Bool.{true}
 use native.Mathlib.Nat.{mul-le-mul, one-mul, mod-eq-of-lt}
 use native.Mathlib.Omega.{arith}
 use lib.Pow.{pow-lt}
-use Rattle.families.specs.declared.Family.{Family}
-use Rattle.families.specs.declared.Family.the-variants.{Grid, Billiard, Plane, Levels}
-use Rattle.families.specs.Family.{computed, sizeOf}
-use Rattle.families.proofs.Parameters.{side-bounds, p-bounds, sides}
+use Rattle.family_rules.specs.declared.Family.{Family}
+use Rattle.family_rules.specs.declared.Family.the-variants.{Grid, Billiard, Plane, Levels}
+use Rattle.family_rules.specs.Family.{computed, sizeOf}
+use Rattle.family_rules.proofs.Parameters.{side-bounds, p-bounds, sides}
 use Rattle.family_billiard.specs.Billiard.{billiardSize}
 use Rattle.family_billiard.proofs.Locations.{size-most}
 

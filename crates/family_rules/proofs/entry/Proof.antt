@@ -1,12 +1,12 @@
--- `families::entry` meets its contract: one arm for each family.
+-- `family_rules::entry` meets its contract: one arm for each family.
 use native.Mathlib.Nat.{mul-le-mul}
 use native.Mathlib.Omega.{arith}
 use borrow.Author.Needs.{needs}
-use Rattle.families.specs.Family.{computed, sizeOf, widthOf, entry}
-use Rattle.families.proofs.Parameters.{side-bounds, p-bounds, sides}
+use Rattle.family_rules.specs.Family.{computed, sizeOf, widthOf, entry}
+use Rattle.family_rules.proofs.Parameters.{side-bounds, p-bounds, sides}
 use Rattle.family_levels.proofs.Sides.{level-fits, width-most}
-use Rattle.families.proofs.entry.Statement.{statement}
-use Rattle.families.proofs.entry.Tie as tie
+use Rattle.family_rules.proofs.entry.Statement.{statement}
+use Rattle.family_rules.proofs.entry.Tie as tie
 
 enum-known-family : tie.Need-enum-known-family
 enum-known-family c = search needs

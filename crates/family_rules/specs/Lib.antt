@@ -1,0 +1,2 @@
+-- The four families of request sets.
+pub mod Family
