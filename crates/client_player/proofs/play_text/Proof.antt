@@ -11,11 +11,6 @@ use Rattle.player_text.proofs.Start.{begins-at-start}
 use Rattle.client_player.proofs.Texts.{tells-over, tells-short, tells-end}
 use Rattle.client_player.proofs.play_text.Statement.{statement}
 use Rattle.client_player.proofs.play_text.Tie as tie
-use Rattle.player_bytes.proofs.put_word.Reads as put-word-reads
-use Rattle.player_state.proofs.begin.Reads as begin-reads
-use Rattle.player_playing.proofs.finish.Reads as finish-reads
-use Rattle.player_state.proofs.is_over.Reads as is-over-reads
-use Rattle.player_playing.proofs.part.Reads as part-reads
 
 begin-requires : tie.Need-begin-requires
 begin-requires c κs = search needs

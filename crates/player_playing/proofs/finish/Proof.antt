@@ -16,7 +16,6 @@ use Rattle.player_state.proofs.Fields.{line-long}
 use borrow.Author.Needs.{needs}
 use Rattle.player_playing.proofs.finish.Statement.{statement}
 use Rattle.player_playing.proofs.finish.Tie as tie
-use Rattle.player_lines.proofs.finish.Reads as finish-reads
 
 -- all the bytes that there is room for are all the bytes of the line
 kept : (s : Playing) → length (s .line) ≡ lineRoom → take (min (s .held) lineRoom) (s .line) ≡ cutLine s

@@ -4,9 +4,6 @@ use Rattle.player_state.proofs.First.{begun}
 use borrow.Author.Needs.{needs}
 use Rattle.player_state.proofs.begin.Statement.{statement}
 use Rattle.player_state.proofs.begin.Tie as tie
-use Rattle.player_state.proofs.made_of.Reads as made-of-reads
-use Rattle.player_text.proofs.begin.Reads as begin-reads
-use Rattle.rig.proofs.Rig.blank.Reads as blank-reads
 
 begin-requires : tie.Need-begin-requires
 begin-requires c κs = search needs

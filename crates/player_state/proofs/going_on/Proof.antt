@@ -4,7 +4,6 @@ use native.Mathlib.Omega.{arith}
 use borrow.Author.Needs.{needs}
 use Rattle.player_state.proofs.going_on.Statement.{statement}
 use Rattle.player_state.proofs.going_on.Tie as tie
-use Rattle.player_state.proofs.made_of.Reads as made-of-reads
 
 made-of-requires : tie.Need-made-of-requires
 made-of-requires c κs = search needs
