@@ -2,14 +2,14 @@
 use Prim.Native.Nat.{ℕ, zero, suc, _+_, _≤_, _<_}
 use mathlib.Core.Bool.{true, false}
 use mathlib.Core.List.{List, [], _∷_, _++_, append-assoc, append-nil}
-use mathlib.Core.Path.{_≡_, refl, sym, ap, _∙_}
+use mathlib.Core.Path.{_≡_, refl, ap, _∙_}
 use native.Mathlib.Omega.{arith}
 use lib.Dec.{eqb}
 use lib.ListN.{length, take, length-append}
 use borrow.Author.Tests.{eqb-true, eqb-false}
 use Rattle.basics.proofs.Basics.{by-bool}
 use Rattle.model.specs.Sets.{member}
-use Rattle.rig_members.specs.Walk.{wordBits, within, lowestMember, withoutMember, membersUpTo, visited, WalkVisits}
+use Rattle.rig_members.specs.Walk.{within, lowestMember, withoutMember, membersUpTo, visited, WalkVisits}
 use Rattle.rig_members.proofs.Walk.{passedTo, passed-all, membersLeft, Walk, turn, walk-begins, walk-first, walk-next}
 
 -- only members come to the list
