@@ -154,6 +154,29 @@ lowest-within p (suc n) r e =
     (λ z. by-bool (p (suc n)) (λ t. let u = rw (z, t) at e in omega arith) (λ t. let u = rw (z, t) at e in omega arith))
     (λ z. let u = rw z at e in omega arith)
 
+-- it passes and none below it does, or none of 1 to n passes
+pub record IsLowest (p : ℕ → Bool) (n r : ℕ) : Type 0 where
+  pub low : 1 ≤ r
+  pub high : r ≤ n
+  pub passes : p r ≡ true
+  pub below : (k : ℕ) → 1 ≤ k → k < r → p k ≡ false
+
+pub lowest-is : (p : ℕ → Bool) (n : ℕ) → IsLowest p n (lowest p n) ⊎ ((lowest p n ≡ 0) × ((k : ℕ) → 1 ≤ k → k ≤ n → p k ≡ false))
+unfolding lowest
+lowest-is p zero = inr (refl, λ k f g. absurd (omega arith))
+lowest-is p (suc n) = go (lowest-is p n)
+  where
+    go : IsLowest p n (lowest p n) ⊎ ((lowest p n ≡ 0) × ((k : ℕ) → 1 ≤ k → k ≤ n → p k ≡ false))
+        → IsLowest p (suc n) (lowest p (suc n)) ⊎ ((lowest p (suc n) ≡ 0) × ((k : ℕ) → 1 ≤ k → k ≤ suc n → p k ≡ false))
+    go (inl s) =
+        rw (ne-eqb (lowest p n) 0 (λ z. omega (arith, s .low)))
+        (inl (record { low = s .low; high = omega (arith, s .high); passes = s .passes; below = s .below }))
+    go (inr (z, none)) =
+        by-bool (p (suc n))
+        (λ t. rw (z, t) (inl (record { low = omega arith; high = omega arith; passes = t; below = λ k f g. none k f (omega arith) })))
+        (λ t. rw (z, t) (inr (refl, λ k f g.
+        by-bool (eqb k (suc n)) (λ e. rw (eqb-true k (suc n) e) t) (λ e. let ne = eqb-false k (suc n) e in none k f (omega arith)))))
+
 -- all pass exactly where there is no lowest that fails
 pub all-lowest : (p : ℕ → Bool) (n : ℕ) → all p n ≡ eqb (lowest (λ k. not (p k)) n) 0
 unfolding all lowest

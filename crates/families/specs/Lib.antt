@@ -1,2 +1,3 @@
--- The four families of request sets.
+-- What the calls that generate a family answer.
 pub mod Made
+pub mod ByVotes

@@ -13,15 +13,15 @@ use Rattle.family_sets.specs.Rule.{isEntry, setBy, setsUpTo, codeBy}
 use Rattle.family_billiard.specs.Billiard.{qListed, billiardSize, modFromOne, firstSite, nextAbove, nextBelow, nextSite, pathSite, billiardEntry}
 use Rattle.family_billiard.proofs.Parameters.{by-q}
 
-pub accepted : (q : ℕ) → qListed q ≡ true → codeBy (billiardEntry q) q (billiardSize q) ≡ 0
+pub accepted : (q : ℕ) → qListed q ≡ true → codeBy (isEntry (billiardEntry q) q) (billiardSize q) ≡ 0
 unfolding at all any member setOf meet names sizeListed allName meetsEarlier allMeet setupCode isEntry setBy setsUpTo modFromOne firstSite nextAbove nextBelow nextSite pathSite billiardEntry
-accepted q h = by-q (λ q. codeBy (billiardEntry q) q (billiardSize q) ≡ 0) refl refl refl q h
+accepted q h = by-q (λ q. codeBy (isEntry (billiardEntry q) q) (billiardSize q) ≡ 0) refl refl refl q h
 
 -- "billiard sets {11, 15, 16, 18, 19, 21, 22, 23, 26} (site 11) and {3, 7, 11, 15, 19, 24, 29, 34, 38} (site 34), for q = 9 of the rule itself"
-pub nine-site-11 : setBy (billiardEntry 9) 9 (billiardSize 9) 11 ≡ setOf (λ m. any (λ k. eqb m (getD (11 ∷ 15 ∷ 16 ∷ 18 ∷ 19 ∷ 21 ∷ 22 ∷ 23 ∷ 26 ∷ []) (k - 1) 0)) 9) (billiardSize 9)
+pub nine-site-11 : setBy (isEntry (billiardEntry 9) 9) (billiardSize 9) 11 ≡ setOf (λ m. any (λ k. eqb m (getD (11 ∷ 15 ∷ 16 ∷ 18 ∷ 19 ∷ 21 ∷ 22 ∷ 23 ∷ 26 ∷ []) (k - 1) 0)) 9) (billiardSize 9)
 unfolding any setOf isEntry setBy modFromOne firstSite nextAbove nextBelow nextSite pathSite billiardEntry
 nine-site-11 = refl
 
-pub nine-site-34 : setBy (billiardEntry 9) 9 (billiardSize 9) 34 ≡ setOf (λ m. any (λ k. eqb m (getD (3 ∷ 7 ∷ 11 ∷ 15 ∷ 19 ∷ 24 ∷ 29 ∷ 34 ∷ 38 ∷ []) (k - 1) 0)) 9) (billiardSize 9)
+pub nine-site-34 : setBy (isEntry (billiardEntry 9) 9) (billiardSize 9) 34 ≡ setOf (λ m. any (λ k. eqb m (getD (3 ∷ 7 ∷ 11 ∷ 15 ∷ 19 ∷ 24 ∷ 29 ∷ 34 ∷ 38 ∷ []) (k - 1) 0)) 9) (billiardSize 9)
 unfolding any setOf isEntry setBy modFromOne firstSite nextAbove nextBelow nextSite pathSite billiardEntry
 nine-site-34 = refl

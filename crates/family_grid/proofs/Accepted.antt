@@ -10,6 +10,6 @@ use Rattle.family_sets.specs.Rule.{isEntry, setBy, setsUpTo, codeBy}
 use Rattle.family_grid.specs.Grid.{sideListed, gridSize, gridWidth, gridEntry}
 use Rattle.family_grid.proofs.Parameters.{by-side}
 
-pub accepted : (s : ℕ) → sideListed s ≡ true → codeBy (gridEntry s) (gridWidth s) (gridSize s) ≡ 0
+pub accepted : (s : ℕ) → sideListed s ≡ true → codeBy (isEntry (gridEntry s) (gridWidth s)) (gridSize s) ≡ 0
 unfolding at all any member setOf meet names sizeListed allName meetsEarlier allMeet setupCode isEntry setBy setsUpTo gridEntry
-accepted s h = by-side (λ s. codeBy (gridEntry s) (gridWidth s) (gridSize s) ≡ 0) refl refl refl refl refl s h
+accepted s h = by-side (λ s. codeBy (isEntry (gridEntry s) (gridWidth s)) (gridSize s) ≡ 0) refl refl refl refl refl s h

@@ -10,6 +10,6 @@ use Rattle.family_sets.specs.Rule.{isEntry, setBy, setsUpTo, codeBy}
 use Rattle.family_plane.specs.Plane.{pListed, planeSize, planeWidth, firstMatrix, otherMatrix, planeEntry}
 use Rattle.family_plane.proofs.Parameters.{by-p}
 
-pub accepted : (p : ℕ) → pListed p ≡ true → codeBy (planeEntry p) (planeWidth p) (planeSize p) ≡ 0
+pub accepted : (p : ℕ) → pListed p ≡ true → codeBy (isEntry (planeEntry p) (planeWidth p)) (planeSize p) ≡ 0
 unfolding at all any member setOf meet names sizeListed allName meetsEarlier allMeet setupCode isEntry setBy setsUpTo firstMatrix otherMatrix planeEntry
-accepted p h = by-p (λ p. codeBy (planeEntry p) (planeWidth p) (planeSize p) ≡ 0) refl refl refl p h
+accepted p h = by-p (λ p. codeBy (isEntry (planeEntry p) (planeWidth p)) (planeSize p) ≡ 0) refl refl refl p h

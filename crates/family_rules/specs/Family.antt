@@ -51,8 +51,8 @@ hasSite f = isEntry (entry f) (widthOf f)
 
 -- the set of site n; "Entries past N become empty."
 abbrev pub setAt : Family → ℕ → ℕ
-setAt f = setBy (entry f) (widthOf f) (sizeOf f)
+setAt f = setBy (hasSite f) (sizeOf f)
 
 -- the buffer of sets
 abbrev pub setsOf : Family → List ℕ
-setsOf f = setsBy (entry f) (widthOf f) (sizeOf f)
+setsOf f = setsBy (hasSite f) (sizeOf f)

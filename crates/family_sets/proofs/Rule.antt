@@ -14,7 +14,7 @@ use Rattle.model.specs.Tables.{at}
 use Rattle.model.specs.Sets.{member, setOf, names}
 use Rattle.model.proofs.Lawful.{no-members}
 use Rattle.family_sets.specs.Meeting.{SiteTo, Common}
-use Rattle.family_sets.specs.Rule.{isEntry, setBy, setsUpTo, codeBy}
+use Rattle.family_sets.specs.Rule.{setBy, setsUpTo, codeBy}
 use Rattle.family_sets.proofs.Bounds.{set-below}
 use Rattle.family_sets.proofs.Members.{member-of}
 use Rattle.family_sets.proofs.Meeting.{meeting-accepted}
@@ -27,50 +27,52 @@ set-names p n m h t =
     (λ e. clash (p m) t (sym (member-of p n m (h .0) (h .1)) ∙ rw (eqb-true (setOf p n) 0 e) (no-members m)))
     (λ e. and-true _ _ (not-of _ e) (lt-ltb _ _ (set-below p n)))
 
-module _ (entry : ℕ → ℕ → ℕ) (width size : ℕ) where
-  length-sets : (n : ℕ) → length (setsUpTo entry width size n) ≡ n
+module _ (takes : ℕ → ℕ → Bool) (size : ℕ) where
+  length-sets : (n : ℕ) → length (setsUpTo takes size n) ≡ n
   unfolding setsUpTo
   length-sets zero = refl
   length-sets (suc n) = let e = length-sets n in simp length-append (omega arith)
 
   -- the entry of site k
-  set-of-site : (n k : ℕ) → SiteTo n k → at 0 (setsUpTo entry width size n) k ≡ setBy entry width size k
+  set-of-site : (n k : ℕ) → SiteTo n k → at 0 (setsUpTo takes size n) k ≡ setBy takes size k
   unfolding setsUpTo at
   set-of-site n zero h = absurd (omega arith)
   set-of-site zero (suc i) h = absurd (omega arith)
   set-of-site (suc n) (suc i) h =
       let e = length-sets n in
       by-bool (eqb i n)
-      (λ t. let s = getD-append-seam (setsUpTo entry width size n) (setBy entry width size (suc n)) [] 0 in rw (eqb-true i n t) (rw e at s))
+      (λ t. let s = getD-append-seam (setsUpTo takes size n) (setBy takes size (suc n)) [] 0 in rw (eqb-true i n t) (rw e at s))
       (λ t. let d = eqb-false i n t in
-      rw (List·getD-append (setsUpTo entry width size n) (setBy entry width size (suc n) ∷ []) 0 i (omega arith))
+      rw (List·getD-append (setsUpTo takes size n) (setBy takes size (suc n) ∷ []) 0 i (omega arith))
       (set-of-site n (suc i) (omega arith, omega arith)))
 
   -- "Entries past N become empty": the set of a site of the family
-  set-of-rule : (n : ℕ) → SiteTo size n → setBy entry width size n ≡ setOf (isEntry entry width n) size
+  set-of-rule : (n : ℕ) → SiteTo size n → setBy takes size n ≡ setOf (takes n) size
   unfolding setBy
   set-of-rule n h = rw (le-leb 1 n (h .0), le-leb n size (h .1))
 
-  -- a common site for every two sets, of at most as many sites as a rig may have: setup's code is 0
-  pub rule-accepted : SiteTo siteLimit size
-      → ((n l : ℕ) → SiteTo size n → SiteTo size l → Common size (isEntry entry width n) (isEntry entry width l))
-      → codeBy entry width size ≡ 0
-  rule-accepted h common = meeting-accepted size (setsUpTo entry width size siteLimit) (length-sets siteLimit) h named shared
-    where
-      made : (k : ℕ) → SiteTo size k → at 0 (setsUpTo entry width size siteLimit) k ≡ setOf (isEntry entry width k) size
-      made k a = let c = h .1 in set-of-site siteLimit k (a .0, omega arith) ∙ set-of-rule k a
+  module _ (h : SiteTo siteLimit size) where
+    -- the sets in the buffer are those of the rule
+    pub set-made : (k : ℕ) → SiteTo size k → at 0 (setsUpTo takes size siteLimit) k ≡ setOf (takes k) size
+    set-made k a = let c = h .1 in set-of-site siteLimit k (a .0, omega arith) ∙ set-of-rule k a
 
-      named : (k : ℕ) → SiteTo size k → names size (at 0 (setsUpTo entry width size siteLimit) k) ≡ true
-      named k a = let s = common k k a a in rw (made k a) (set-names (isEntry entry width k) size (s .site) (s .inRange) (s .first))
-
-      shared : (k l : ℕ) → SiteTo size k → SiteTo size l
-          → Common size (member (at 0 (setsUpTo entry width size siteLimit) k)) (member (at 0 (setsUpTo entry width size siteLimit) l))
-      shared k l a b =
+    module _ (common : (n l : ℕ) → SiteTo size n → SiteTo size l → Common size (takes n) (takes l)) where
+      -- where the rule names a common site for every two, the sets in the buffer have it
+      pub sets-meet : (k l : ℕ) → SiteTo size k → SiteTo size l
+          → Common size (member (at 0 (setsUpTo takes size siteLimit) k)) (member (at 0 (setsUpTo takes size siteLimit) l))
+      sets-meet k l a b =
           let s = common k l a b in
           let r = s .inRange in
           record {
             site = s .site;
             inRange = r;
-            first = rw (made k a) (member-of (isEntry entry width k) size (s .site) (r .0) (r .1) ∙ s .first);
-            second = rw (made l b) (member-of (isEntry entry width l) size (s .site) (r .0) (r .1) ∙ s .second);
+            first = rw (set-made k a) (member-of (takes k) size (s .site) (r .0) (r .1) ∙ s .first);
+            second = rw (set-made l b) (member-of (takes l) size (s .site) (r .0) (r .1) ∙ s .second);
           }
+
+      -- and setup's code is 0
+      pub rule-accepted : codeBy takes size ≡ 0
+      rule-accepted = meeting-accepted size (setsUpTo takes size siteLimit) (length-sets siteLimit) h named sets-meet
+        where
+          named : (k : ℕ) → SiteTo size k → names size (at 0 (setsUpTo takes size siteLimit) k) ≡ true
+          named k a = let s = common k k a a in rw (set-made k a) (set-names (takes k) size (s .site) (s .inRange) (s .first))

@@ -19,7 +19,7 @@ pub record Accepted (n : ℕ) (sets : List ℕ) : Type 0 where
   pub meet : allMeet n sets ≡ true
 
 -- a code that is not 0 comes only of its test
-not-coded : (t : Bool) (c x : ℕ) → 1 ≤ c → cond t c x ≡ 0 → (t ≡ false) × (x ≡ 0)
+pub not-coded : (t : Bool) (c x : ℕ) → 1 ≤ c → cond t c x ≡ 0 → (t ≡ false) × (x ≡ 0)
 not-coded true c x h e = absurd (omega arith)
 not-coded false c x h e = (refl, e)
 

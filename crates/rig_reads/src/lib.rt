@@ -20,24 +20,24 @@ pub fn is_member(set: u64, j: u64) -> bool
     (set >> (j - 1)) % 2 == 1
 }
 
-// The set of site k, empty outside the table.
-fn set_of(sets: &[u64], k: u64) -> u64
-    ensures { λ r. ⌜ r ≡ at 0 (now (sets .entry)) k ⌝ }
+// What site k has in a list with an entry for each site, 0 outside it.
+pub fn entry_of(entries: &[u64], k: u64) -> u64
+    ensures { λ r. ⌜ r ≡ at 0 (now (entries .entry)) k ⌝ }
 {
     if k == 0 {
         return 0;
     }
-    if k > sets.len() as u64 {
+    if k > entries.len() as u64 {
         return 0;
     }
-    sets[(k - 1) as usize]
+    entries[(k - 1) as usize]
 }
 
 // Site k is tied to arbiter j: j is in k's set.
 pub fn tied(sets: &[u64; Rig::SITES], k: u64, j: u64) -> bool
     ensures { λ r. ⌜ r ≡ hasMember (now (sets .entry)) k j ⌝ }
 {
-    is_member(set_of(sets, k), j)
+    is_member(entry_of(sets, k), j)
 }
 
 // Two sites are tied to arbiter j.

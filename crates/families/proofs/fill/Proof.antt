@@ -9,13 +9,13 @@ use lib.ListN.{length, take, length-set}
 use borrow.Author.Needs.{needs}
 use Rattle.rig.specs.Limits.{siteLimit}
 use Rattle.family_sets.specs.Rule.{setsUpTo}
-use Rattle.family_rules.specs.Family.{sizeOf, widthOf, entry}
+use Rattle.family_rules.specs.Family.{sizeOf, hasSite}
 use Rattle.family_rules.proofs.Parameters.{listed-computed}
 use Rattle.families.proofs.fill.Statement.{statement}
 use Rattle.families.proofs.fill.Tie as tie
 
 abbrev Inv-loop : tie.InvT-loop
-Inv-loop family sets₀ i₀ sets i = (i ≤ siteLimit) × (length sets ≡ siteLimit) × (take i sets ≡ setsUpTo (entry family) (widthOf family) (sizeOf family) i)
+Inv-loop family sets₀ i₀ sets i = (i ≤ siteLimit) × (length sets ≡ siteLimit) × (take i sets ≡ setsUpTo (hasSite family) (sizeOf family) i)
 
 abbrev μ-loop : tie.MeasureT-loop
 μ-loop family sets₀ i₀ sets i = siteLimit - i

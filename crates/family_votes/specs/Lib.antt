@@ -1,0 +1,2 @@
+-- The votes of request 2.5.
+pub mod Votes
