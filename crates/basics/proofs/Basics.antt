@@ -174,8 +174,11 @@ lowest-is p (suc n) = go (lowest-is p n)
     go (inr (z, none)) =
         by-bool (p (suc n))
         (λ t. rw (z, t) (inl (record { low = omega arith; high = omega arith; passes = t; below = λ k f g. none k f (omega arith) })))
-        (λ t. rw (z, t) (inr (refl, λ k f g.
-        by-bool (eqb k (suc n)) (λ e. rw (eqb-true k (suc n) e) t) (λ e. let ne = eqb-false k (suc n) e in none k f (omega arith)))))
+        (λ t. rw (z, t) (inr (
+          refl,
+          λ k f g.
+              by-bool (eqb k (suc n)) (λ e. rw (eqb-true k (suc n) e) t) (λ e. let ne = eqb-false k (suc n) e in none k f (omega arith)),
+        )))
 
 -- all pass exactly where there is no lowest that fails
 pub all-lowest : (p : ℕ → Bool) (n : ℕ) → all p n ≡ eqb (lowest (λ k. not (p k)) n) 0

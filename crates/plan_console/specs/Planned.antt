@@ -1,17 +1,27 @@
--- What a call promises that reads its words from the operating system: some words were read, and their command is planned.
+-- What a call promises that reads its words from the operating system: some words were read, so many as there are, and their command is planned.
 use Prim.Native.Nat.{ℕ}
 use mathlib.Core.List.{List}
-use Rattle.plan_words.specs.Words.{askedBy}
+use mathlib.Core.Path.{_≡_}
+use lib.ListN.{length}
+use Rattle.plan_numbers.specs.declared.Given.{Given}
+use Rattle.plan_numbers.specs.Given.{withWord, given}
 use Rattle.plan_text.specs.declared.Output.{Output}
 use Rattle.plan_text.specs.Plan.{Prints}
 
--- behind a family's name and its first number
-pub record PlansNumbers (count : ℕ) (name a page after : List ℕ) (r : Output) : Type 0 where
-  pub second : List ℕ
-  pub third : List ℕ
-  pub printed : Prints (askedBy count name a second third) page after r
+-- one word more
+pub record ReadsWord (before after : Given) : Type 0 where
+  pub word : List ℕ
+  pub read : after ≡ withWord before word
 
+-- `count` words
+pub record ReadsWords (count : ℕ) (after : Given) : Type 0 where
+  pub words : List (List ℕ)
+  pub counted : length words ≡ count
+  pub read : after ≡ given words
+
+-- a family's name, and `count` words behind it
 pub record PlansWords (count : ℕ) (page after : List ℕ) (r : Output) : Type 0 where
   pub name : List ℕ
-  pub first : List ℕ
-  pub numbers : PlansNumbers count name first page after r
+  pub words : List (List ℕ)
+  pub counted : length words ≡ count
+  pub printed : Prints name (given words) page after r

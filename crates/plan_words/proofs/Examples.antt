@@ -1,42 +1,39 @@
 -- Commands and what they ask, by calculation.
-use mathlib.Core.List.{[], _∷_}
+use Prim.Native.Nat.{ℕ}
+use mathlib.Core.Bool.{true, false}
+use mathlib.Core.List.{List, [], _∷_}
 use mathlib.Core.Path.{_≡_, refl}
-use lib.ListN.{replicate}
-use Rattle.player_numbers.specs.Numbers.{allDigits, noLeadingZero, value}
 use Rattle.family_rules.specs.declared.Family.the-variants.{Grid, Billiard, Plane, Levels}
+use Rattle.model.specs.Tables.{at}
+use Rattle.plan_numbers.specs.declared.Given.{Given}
 use Rattle.player_bytes.specs.Same.{same}
-use Rattle.plan_words.specs.Words.{largest, parameter, gridWord, billiardWord, planeWord, levelsWord, ofOne, ofThree, askedBy}
-use Rattle.plan_words.specs.declared.Asked.the-variants.{For, Wrong}
+use Rattle.plan_words.specs.Words.{gridWord, billiardWord, planeWord, levelsWord, votesWord, ofOne, ofThree, askedBy}
+use Rattle.plan_words.specs.declared.Asked.the-variants.{For, Votes, Wrong}
 
--- `grid 3`, `billiard 7`, `plane 10`, `levels 2 3 5`, `grid 0`
+-- so many numbers
+abbrev numbers : ℕ → List ℕ → Given
+numbers n ns = record { wrong = false; count = n; numbers = ns }
+
+-- `grid 3`, `billiard 7`, `plane 10`, `levels 2 3 5`, `votes 3 1 1 1`, `votes`
 right :
-    (askedBy 3 gridWord (51 ∷ []) [] [] ≡ For (Grid 3))
-    × (askedBy 3 billiardWord (55 ∷ []) [] [] ≡ For (Billiard 7))
-    × (askedBy 3 planeWord (49 ∷ 48 ∷ []) [] [] ≡ For (Plane 10))
-    × (askedBy 5 levelsWord (50 ∷ []) (51 ∷ []) (53 ∷ []) ≡ For (Levels 2 3 5))
-    × (askedBy 3 gridWord (48 ∷ []) [] [] ≡ For (Grid 0))
-unfolding askedBy ofOne ofThree parameter same noLeadingZero allDigits value
-right = (refl, refl, refl, refl, refl)
+    (askedBy gridWord (numbers 1 (3 ∷ [])) ≡ For (Grid 3))
+    × (askedBy billiardWord (numbers 1 (7 ∷ [])) ≡ For (Billiard 7))
+    × (askedBy planeWord (numbers 1 (10 ∷ [])) ≡ For (Plane 10))
+    × (askedBy levelsWord (numbers 3 (2 ∷ 3 ∷ 5 ∷ [])) ≡ For (Levels 2 3 5))
+    × (askedBy votesWord (numbers 4 (3 ∷ 1 ∷ 1 ∷ 1 ∷ [])) ≡ Votes)
+    × (askedBy votesWord (numbers 0 []) ≡ Votes)
+unfolding askedBy ofOne ofThree same at
+right = (refl, refl, refl, refl, refl, refl)
 
--- the largest number, one more, and 21 digits
-large :
-    (askedBy 3 gridWord (49 ∷ 56 ∷ 52 ∷ 52 ∷ 54 ∷ 55 ∷ 52 ∷ 52 ∷ 48 ∷ 55 ∷ 51 ∷ 55 ∷ 48 ∷ 57 ∷ 53 ∷ 53 ∷ 49 ∷ 54 ∷ 49 ∷ 53 ∷ []) [] [] ≡ For (Grid largest))
-    × (askedBy 3 gridWord (49 ∷ 56 ∷ 52 ∷ 52 ∷ 54 ∷ 55 ∷ 52 ∷ 52 ∷ 48 ∷ 55 ∷ 51 ∷ 55 ∷ 48 ∷ 57 ∷ 53 ∷ 53 ∷ 49 ∷ 54 ∷ 49 ∷ 54 ∷ []) [] [] ≡ For (Grid largest))
-    × (askedBy 3 gridWord (replicate 21 57) [] [] ≡ For (Grid largest))
-unfolding askedBy ofOne ofThree parameter same noLeadingZero allDigits value
-large = (refl, refl, refl)
-
--- `grid 007`, `grid 3a`, no byte, `gri 3`, `grids 3`, `levels 2`, two words, `grid 3 4 5`, `levels 2 3` with no byte behind, six words
+-- `grid` and `votes` with a word that is no number, `gri 3`, `grids 3`, `levels 2`, `grid`, `grid 3 4 5`, `levels 2 3 5 7`
 wrong :
-    (askedBy 3 gridWord (48 ∷ 48 ∷ 55 ∷ []) [] [] ≡ Wrong)
-    × (askedBy 3 gridWord (51 ∷ 97 ∷ []) [] [] ≡ Wrong)
-    × (askedBy 3 gridWord [] [] [] ≡ Wrong)
-    × (askedBy 3 (103 ∷ 114 ∷ 105 ∷ []) (51 ∷ []) [] [] ≡ Wrong)
-    × (askedBy 3 (103 ∷ 114 ∷ 105 ∷ 100 ∷ 115 ∷ []) (51 ∷ []) [] [] ≡ Wrong)
-    × (askedBy 3 levelsWord (50 ∷ []) [] [] ≡ Wrong)
-    × (askedBy 2 gridWord (51 ∷ []) [] [] ≡ Wrong)
-    × (askedBy 5 gridWord (51 ∷ []) (52 ∷ []) (53 ∷ []) ≡ Wrong)
-    × (askedBy 5 levelsWord (50 ∷ []) (51 ∷ []) [] ≡ Wrong)
-    × (askedBy 6 levelsWord (50 ∷ []) (51 ∷ []) (53 ∷ []) ≡ Wrong)
-unfolding askedBy ofOne ofThree parameter same noLeadingZero allDigits value
-wrong = (refl, refl, refl, refl, refl, refl, refl, refl, refl, refl)
+    (askedBy gridWord (record { wrong = true; count = 1; numbers = 3 ∷ [] }) ≡ Wrong)
+    × (askedBy votesWord (record { wrong = true; count = 1; numbers = 3 ∷ [] }) ≡ Wrong)
+    × (askedBy (103 ∷ 114 ∷ 105 ∷ []) (numbers 1 (3 ∷ [])) ≡ Wrong)
+    × (askedBy (103 ∷ 114 ∷ 105 ∷ 100 ∷ 115 ∷ []) (numbers 1 (3 ∷ [])) ≡ Wrong)
+    × (askedBy levelsWord (numbers 1 (2 ∷ [])) ≡ Wrong)
+    × (askedBy gridWord (numbers 0 []) ≡ Wrong)
+    × (askedBy gridWord (numbers 3 (3 ∷ 4 ∷ 5 ∷ [])) ≡ Wrong)
+    × (askedBy levelsWord (numbers 4 (2 ∷ 3 ∷ 5 ∷ 7 ∷ [])) ≡ Wrong)
+unfolding askedBy ofOne ofThree same at
+wrong = (refl, refl, refl, refl, refl, refl, refl, refl)

@@ -1,3 +1,3 @@
--- Laws of a command's words.
-pub mod Numbers
+-- Commands and what they ask.
+pub mod Tests
 pub mod Examples

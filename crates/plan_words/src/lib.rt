@@ -1,44 +1,40 @@
-// What the words of a command ask: `grid 3`, `billiard 7`, `plane 5`, `levels 2 3 5`.
+// What the words of a command ask: `grid 3`, `billiard 7`, `plane 5`, `levels 2 3 5`, `votes 3 1 1 1`.
 use family_rules::Family;
+use plan_numbers::Given;
 use player_bytes::same_bytes;
-use player_numbers::Number;
-use player_numbers::is_digit;
-use player_numbers::no_leading_zero;
-ghost use Prim.Native.Nat.{_+_, _-_, _*_, min};
-ghost use mathlib.Core.Bool.{true};
 ghost use mathlib.Core.Path.{_≡_};
-ghost use Rattle.player_numbers.specs.Numbers.{isDigit};
-ghost use Rattle.plan_words.specs.Words.{largest, parameter, ofOne, ofThree, askedBy};
+ghost use Rattle.plan_words.specs.Words.{ofOne, ofThree, askedBy};
 
-// What is asked: a family, or nothing, where the words are wrong.
+// What is asked: a family by its parameters, one by the votes that are given, or nothing, where the words are wrong.
 pub enum Asked {
     For(Family),
+    Votes,
     Wrong,
 }
 
-// The largest number of 64 bits.
-const LARGEST: u64 = 18446744073709551615;
-
-// What a command of `count` words asks: its own name, the family's name and its numbers. A word that is not there is empty.
-pub fn asked_by(count: usize, name: &[u8], a: &[u8], b: &[u8], c: &[u8]) -> Asked
-    ensures { λ r. ⌜ r ≡ askedBy count (now (name .entry)) (now (a .entry)) (now (b .entry)) (now (c .entry)) ⌝ }
+// What a family's name asks with the numbers behind it.
+pub fn asked_by(name: &[u8], given: Given) -> Asked
+    ensures { λ r. ⌜ r ≡ askedBy (now (name .entry)) given ⌝ }
 {
-    if count == 3 {
-        return of_one(name, number_of(a));
+    if given.wrong {
+        return Asked::Wrong;
     }
-    if count == 5 {
-        return of_three(name, number_of(a), number_of(b), number_of(c));
+    if same_bytes(name, b"votes") {
+        return Asked::Votes;
+    }
+    if given.count == 1 {
+        return of_one(name, given.numbers[0]);
+    }
+    if given.count == 3 {
+        return of_three(name, given.numbers[0], given.numbers[1], given.numbers[2]);
     }
     Asked::Wrong
 }
 
 // What a name asks with one number.
-fn of_one(name: &[u8], a: Number) -> Asked
-    ensures { λ r. ⌜ r ≡ ofOne (now (name .entry)) a ⌝ }
+fn of_one(name: &[u8], n: u64) -> Asked
+    ensures { λ r. ⌜ r ≡ ofOne (now (name .entry)) n ⌝ }
 {
-    let Number::Of(n) = a else {
-        return Asked::Wrong;
-    };
     if same_bytes(name, b"grid") {
         return Asked::For(Family::Grid(n));
     }
@@ -52,50 +48,11 @@ fn of_one(name: &[u8], a: Number) -> Asked
 }
 
 // What a name asks with three numbers: rows, bays and levels.
-fn of_three(name: &[u8], a: Number, b: Number, c: Number) -> Asked
-    ensures { λ r. ⌜ r ≡ ofThree (now (name .entry)) a b c ⌝ }
+fn of_three(name: &[u8], rows: u64, bays: u64, levels: u64) -> Asked
+    ensures { λ r. ⌜ r ≡ ofThree (now (name .entry)) rows bays levels ⌝ }
 {
-    let Number::Of(rows) = a else {
-        return Asked::Wrong;
-    };
-    let Number::Of(bays) = b else {
-        return Asked::Wrong;
-    };
-    let Number::Of(levels) = c else {
-        return Asked::Wrong;
-    };
     if same_bytes(name, b"levels") {
         return Asked::For(Family::Levels(rows, bays, levels));
     }
     Asked::Wrong
-}
-
-// The number that a word is, of any value: above the largest number of 64 bits it is that one.
-fn number_of(word: &[u8]) -> Number
-    ensures { λ r. ⌜ r ≡ parameter (now (word .entry)) ⌝ }
-{
-    if !no_leading_zero(word) {
-        return Number::Nothing;
-    }
-    let mut n = 0;
-    for i in 0..word.len() {
-        let b = word[i];
-        if !is_digit(b) {
-            return Number::Nothing;
-        }
-        n = with_digit(n, b);
-    }
-    Number::Of(n)
-}
-
-// The number n with one digit behind it, at most the largest.
-fn with_digit(n: u64, b: u8) -> u64
-    requires { ⌜ isDigit b ≡ true ⌝ }
-    ensures { λ r. ⌜ r ≡ min (n * 10 + (b - 48)) largest ⌝ }
-{
-    let d = (b - b'0') as u64;
-    if n > (LARGEST - d) / 10 {
-        return LARGEST;
-    }
-    n * 10 + d
 }

@@ -62,7 +62,7 @@ returns c =
     let w = c .before .before .before in
     let a = w .before .before .args in
     let h : voteSum (now (a .votes)) (a .size) < 2 * taken (a .size) (now (a .votes)) (a .n) (w .loop .k + 1) =
-      omega (arith, c .if1 .taken, taken-on (c .before), w .before .before .pre .1) in
+    omega (arith, c .if1 .taken, taken-on (c .before), w .before .before .pre .1) in
     add-one (w .loop .k) ∙ sym (lowest-found _ (w .loop .k) (a .size) (w .loop .inv .3) (more-enough (a .size) (now (a .votes)) (a .n) (w .loop .k) h) (omega arith))
 
 site-after-requires : tie.Need-site-after-requires Inv-loop μ-loop
@@ -84,11 +84,12 @@ loop-again c =
     let w = c .before .before .before .before in
     let a = w .before .before .args in
     let h : 2 * taken (a .size) (now (a .votes)) (a .n) (w .loop .k + 1) ≤ voteSum (now (a .votes)) (a .size) =
-      omega (arith, c .before .if1 .left, taken-on (c .before .before), w .before .before .pre .1) in
-    (omega arith,
-    c .site-after .ensures ∙ rw (w .loop .inv .1, add-one),
-    taken-on (c .before .before),
-    lowest-more _ (w .loop .k) (w .loop .inv .3) (more-wanted (a .size) (now (a .votes)) (a .n) (w .loop .k) h))
+    omega (arith, c .before .if1 .left, taken-on (c .before .before), w .before .before .pre .1) in (
+      omega arith,
+      c .site-after .ensures ∙ rw (w .loop .inv .1, add-one),
+      taken-on (c .before .before),
+      lowest-more _ (w .loop .k) (w .loop .inv .3) (more-wanted (a .size) (now (a .votes)) (a .n) (w .loop .k) h),
+    )
 
 returns-2 : tie.Need-returns-2 Inv-loop μ-loop
 unfolding runLength

@@ -9,11 +9,20 @@ use Rattle.plan_text.proofs.plan.Tie as tie
 asked-by-requires : tie.Need-asked-by-requires
 asked-by-requires c κs = search needs
 
-enum-known-family : tie.Need-enum-known-family
-enum-known-family c = search needs
+enum-known-asked : tie.Need-enum-known-asked
+enum-known-asked c = search needs
+
+family-lines-requires : tie.Need-family-lines-requires
+family-lines-requires c κs = search needs
 
 enum-told : tie.Need-enum-told
 enum-told c = search needs
+
+votes-lines-requires : tie.Need-votes-lines-requires
+votes-lines-requires c κs = search needs
+
+enum-told-2 : tie.Need-enum-told-2
+enum-told-2 c = search needs
 
 usage-requires : tie.Need-usage-requires
 usage-requires c κs = search needs
@@ -21,19 +30,32 @@ usage-requires c κs = search needs
 returns : tie.Need-returns
 unfolding textFor streamFor
 returns c =
-    let e = c .usage .ensures in
-    rw (← c .before .before .before .before .asked-by .ensures, c .before .before .enum-told .given .1) (refl, e, printed-part e)
-
-family-lines-requires : tie.Need-family-lines-requires
-family-lines-requires c κs = search needs
+    let e = c .family-lines .ensures in
+    rw (← c .before .before .before .before .before .asked-by .ensures, c .before .before .before .asked .given .1) (refl, e, printed-part e)
 
 returns-2 : tie.Need-returns-2
 unfolding textFor streamFor
 returns-2 c =
-    let e = c .family-lines .ensures in
-    rw (← c .before .before .before .before .before .asked-by .ensures, c .before .before .before .family .given .1) (refl, e, printed-part e)
+    let e = c .votes-lines .ensures in
+    rw (← c .before .before .before .before .asked-by .ensures, c .before .before .enum-told .given .1) (refl, e, printed-part e)
+
+returns-3 : tie.Need-returns-3
+unfolding textFor streamFor
+returns-3 c =
+    let e = c .usage .ensures in
+    rw (← c .before .before .before .before .asked-by .ensures, c .before .before .enum-told2 .given .1) (refl, e, printed-part e)
 
 pub plan-spec : {M : Type 1} → statement M
 plan-spec =
     tie.close
-    (tie.spec asked-by-requires enum-known-family enum-told usage-requires returns family-lines-requires returns-2)
+    (tie.spec
+    asked-by-requires
+    enum-known-asked
+    family-lines-requires
+    enum-told
+    votes-lines-requires
+    enum-told-2
+    usage-requires
+    returns
+    returns-2
+    returns-3)

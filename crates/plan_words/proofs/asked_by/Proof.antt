@@ -1,55 +1,71 @@
--- `asked_by`: three words or five.
-use mathlib.Core.Path.{_∙_}
+-- `asked_by`: each test in turn.
+use mathlib.Core.Path.{sym, _∙_}
 use borrow.Author.Needs.{needs}
-use borrow.Author.Tests.{eq-eqb, ne-eqb}
-use Rattle.plan_words.specs.Words.{askedBy}
+use Rattle.plan_words.proofs.Tests.{no-number, by-votes, one-number, three-numbers, other-numbers}
 use Rattle.plan_words.proofs.asked_by.Statement.{statement}
 use Rattle.plan_words.proofs.asked_by.Tie as tie
 
-number-of-requires : tie.Need-number-of-requires
-number-of-requires c κs = search needs
+returns : tie.Need-returns
+returns c = sym (no-number _ _ (c .if1 .taken))
+
+slice-aggregate-same-bytes : tie.Need-slice-aggregate-same-bytes
+slice-aggregate-same-bytes c = search needs
+
+same-bytes-requires : tie.Need-same-bytes-requires
+same-bytes-requires c κs = search needs
+
+returns-2 : tie.Need-returns-2
+returns-2 c = sym (by-votes _ _ (c .before .before .before .if1 .left) (sym (c .before .same-bytes .ensures) ∙ c .if2 .taken))
+
+element-copy-out-of-one : tie.Need-element-copy-out-of-one
+element-copy-out-of-one c = search needs
 
 of-one-requires : tie.Need-of-one-requires
 of-one-requires c κs = search needs
 
-returns : tie.Need-returns
-unfolding askedBy
-returns c = c .of-one .ensures ∙ rw (c .before .number-of .ensures, eq-eqb _ 3 (c .before .before .if1 .taken))
+returns-3 : tie.Need-returns-3
+returns-3 c =
+    let two = c .before .before in
+    c .of-one .ensures ∙ sym (one-number _ _ (two .before .before .before .before .if1 .left) (sym (two .before .before .same-bytes .ensures) ∙ two .before .if2 .left) (two .if3 .taken))
 
-number-of-requires-2 : tie.Need-number-of-requires-2
-number-of-requires-2 c κs = search needs
+element-copy-out-of-three : tie.Need-element-copy-out-of-three
+element-copy-out-of-three c = search needs
 
-number-of-requires-3 : tie.Need-number-of-requires-3
-number-of-requires-3 c κs = search needs
+element-copy-out-of-three-2 : tie.Need-element-copy-out-of-three-2
+element-copy-out-of-three-2 c = search needs
 
-number-of-requires-4 : tie.Need-number-of-requires-4
-number-of-requires-4 c κs = search needs
+element-copy-out-of-three-3 : tie.Need-element-copy-out-of-three-3
+element-copy-out-of-three-3 c = search needs
 
 of-three-requires : tie.Need-of-three-requires
 of-three-requires c κs = search needs
 
-returns-2 : tie.Need-returns-2
-unfolding askedBy
-returns-2 c =
-    let five = c .before .before .before .before in
+returns-4 : tie.Need-returns-4
+returns-4 c =
+    let three = c .before .before .before .before .before in
+    let two = three .before in
     c .of-three .ensures
-    ∙ rw (c .before .number-of4 .ensures, c .before .before .number-of3 .ensures, c .before .before .before .number-of2 .ensures)
-    (rw (ne-eqb _ 3 (five .before .if1 .left), eq-eqb _ 5 (five .if2 .taken)))
+    ∙ sym (three-numbers _ _ (two .before .before .before .if1 .left) (sym (two .before .same-bytes .ensures) ∙ two .if2 .left) (three .if3 .left) (c .before .before .before .before .if4 .taken))
 
-returns-3 : tie.Need-returns-3
-unfolding askedBy
-returns-3 c = rw (ne-eqb _ 3 (c .before .if1 .left), ne-eqb _ 5 (c .if2 .left))
+returns-5 : tie.Need-returns-5
+returns-5 c =
+    let two = c .before .before in
+    sym (other-numbers _ _ (two .before .before .before .if1 .left) (sym (two .before .same-bytes .ensures) ∙ two .if2 .left) (c .before .if3 .left) (c .if4 .left))
 
 pub asked-by-spec : {M : Type 1} → statement M
 asked-by-spec =
     tie.close
     (tie.spec
-    number-of-requires
-    of-one-requires
     returns
-    number-of-requires-2
-    number-of-requires-3
-    number-of-requires-4
-    of-three-requires
+    slice-aggregate-same-bytes
+    same-bytes-requires
     returns-2
-    returns-3)
+    element-copy-out-of-one
+    of-one-requires
+    returns-3
+    element-copy-out-of-three
+    element-copy-out-of-three-2
+    element-copy-out-of-three-3
+    of-three-requires
+    returns-4
+    returns-5)

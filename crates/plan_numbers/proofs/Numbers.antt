@@ -11,7 +11,7 @@ use lib.Seq.{drop-cons}
 use Rattle.player_numbers.specs.Numbers.{isDigit, allDigits, noLeadingZero, value}
 use Rattle.player_numbers.specs.declared.Number.{Number}
 use Rattle.player_numbers.specs.declared.Number.the-variants.{Of, Nothing}
-use Rattle.plan_words.specs.Words.{largest, parameter}
+use Rattle.plan_numbers.specs.Given.{largest, parameter}
 
 -- what is left to read, behind the digits of n
 abbrev pub numberFrom : ℕ → List ℕ → Number

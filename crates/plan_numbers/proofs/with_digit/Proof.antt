@@ -5,8 +5,8 @@ use borrow.Author.Tests.{leb-true}
 use native.Mathlib.Omega.{arith}
 use lib.Dec.{leb}
 use Rattle.basics.proofs.Basics.{and-split}
-use Rattle.plan_words.proofs.with_digit.Statement.{statement}
-use Rattle.plan_words.proofs.with_digit.Tie as tie
+use Rattle.plan_numbers.proofs.with_digit.Statement.{statement}
+use Rattle.plan_numbers.proofs.with_digit.Tie as tie
 
 digit : (c : tie.Start) → (48 ≤ c .args .b) × (c .args .b ≤ 57)
 digit c =

@@ -6,10 +6,10 @@ use denote.Ref.{now}
 use native.Mathlib.Omega.{arith}
 use lib.ListN.{length, drop}
 use Rattle.basics.proofs.Tests.{failed, passed}
-use Rattle.plan_words.specs.Words.{largest, parameter}
-use Rattle.plan_words.proofs.Numbers.{numberFrom, number-begun, leading-zero, digit-at, other-at, number-ended}
-use Rattle.plan_words.proofs.number_of.Statement.{statement}
-use Rattle.plan_words.proofs.number_of.Tie as tie
+use Rattle.plan_numbers.specs.Given.{largest, parameter}
+use Rattle.plan_numbers.proofs.Numbers.{numberFrom, number-begun, leading-zero, digit-at, other-at, number-ended}
+use Rattle.plan_numbers.proofs.number_of.Statement.{statement}
+use Rattle.plan_numbers.proofs.number_of.Tie as tie
 
 abbrev Inv-loop : tie.InvT-loop
 Inv-loop word n₀ i₀ i-end n i = (i ≤ length word) × (i-end ≡ length word) × (n ≤ largest) × (parameter word ≡ numberFrom n (drop i word))

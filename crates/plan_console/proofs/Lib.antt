@@ -1,0 +1,2 @@
+-- Words that were read one behind the other.
+pub mod Words

@@ -1,0 +1,2 @@
+-- The numbers behind a family's name.
+pub mod Given
