@@ -5,9 +5,11 @@ use std::collections::HashSet;
 
 use crate::model::{Family, MOST_SITES};
 use crate::plan::Words;
+use crate::vote_calls;
 
-/// The names of the families, with how many numbers each takes.
-const NAMES: [(&str, usize); 4] = [("grid", 1), ("billiard", 1), ("plane", 1), ("levels", 3)];
+/// The names of the families, with how many numbers each takes. `votes` takes
+/// any number of them; here it has three.
+const NAMES: [(&str, usize); 5] = [("grid", 1), ("billiard", 1), ("plane", 1), ("levels", 3), ("votes", 3)];
 
 /// Numbers of three sides tried with each other; the first ones are small.
 const SIDES: [u128; 12] = [
@@ -32,7 +34,7 @@ const OTHER_NAMES: [&str; 18] = [
 ];
 
 /// Words that are no numbers.
-const NO_NUMBERS: [&str; 36] = [
+pub(crate) const NO_NUMBERS: [&str; 36] = [
     "", " ", "0 ", "00", "01", "03", "007", "+3", "-3", "-0", "+", "-", "--3", " 3", "3 ", "3 3", "\t3",
     "3\n", "\n3", "3\r", "x", "x3", "3x", "0x3", "3.0", "3.", ".3", "3,", "3,3", "1_0", "3e0", "\u{ff13}",
     "\u{b3}", "018446744073709551619", "-18446744073709551613", "18446744073709551619x",
@@ -41,10 +43,11 @@ const NO_NUMBERS: [&str; 36] = [
 /// The length of a long word.
 const LONG: usize = 5_000;
 
-/// All the calls, each once.
-pub fn all() -> Vec<Words> {
+/// All the calls, each once. The seed is that of the random votes.
+pub fn all(seed: u64) -> Vec<Words> {
     let mut calls = Vec::new();
     plans(&mut calls);
+    vote_calls::put_all(&mut calls, seed);
     wrong_counts(&mut calls);
     wrong_names(&mut calls);
     wrong_numbers(&mut calls);
@@ -56,18 +59,18 @@ pub fn all() -> Vec<Words> {
     calls
 }
 
-fn put<T: AsRef<[u8]>>(calls: &mut Vec<Words>, name: impl AsRef<[u8]>, rest: &[T]) {
+pub(crate) fn put<T: AsRef<[u8]>>(calls: &mut Vec<Words>, name: impl AsRef<[u8]>, rest: &[T]) {
     let mut words = vec![name.as_ref().to_vec()];
     words.extend(rest.iter().map(|word| word.as_ref().to_vec()));
     calls.push(words);
 }
 
-fn put_numbers<T: ToString>(calls: &mut Vec<Words>, name: &str, numbers: &[T]) {
+pub(crate) fn put_numbers<T: ToString>(calls: &mut Vec<Words>, name: &str, numbers: &[T]) {
     let words: Vec<String> = numbers.iter().map(T::to_string).collect();
     put(calls, name, &words);
 }
 
-/// Every family with every parameter for which it is made.
+/// Every family but that of votes, with every parameter for which it is made.
 fn plans(calls: &mut Vec<Words>) {
     for family in Family::all() {
         match family {
@@ -177,7 +180,7 @@ fn wrong_names(calls: &mut Vec<Words>) {
     }
 }
 
-/// Too few numbers and too many.
+/// Too few numbers and too many; of votes, few and many.
 fn wrong_counts(calls: &mut Vec<Words>) {
     calls.push(Vec::new());
     for (name, right) in NAMES {
@@ -275,8 +278,9 @@ mod tests {
 
     #[test]
     fn every_plan_is_called_for_once() {
-        let calls = all();
-        let sets = calls.iter().filter(|call| matches!(answer(call), Answer::Sets(_)));
+        let calls = all(1);
+        let others = calls.iter().filter(|call| call.first().is_none_or(|name| name != b"votes"));
+        let sets = others.filter(|call| matches!(answer(call), Answer::Sets(_)));
         assert_eq!(sets.count(), Family::all().len());
         let unique: HashSet<&Words> = calls.iter().collect();
         assert_eq!(unique.len(), calls.len());
@@ -284,7 +288,7 @@ mod tests {
 
     #[test]
     fn the_calls_asked_for_are_there() {
-        let calls = all();
+        let calls = all(1);
         let is_called = |line: &str| {
             let words: Words = line.split(' ').map(|word| word.as_bytes().to_vec()).collect();
             assert!(calls.contains(&words), "{line}");
@@ -304,6 +308,22 @@ mod tests {
             "Grid 3",
             "cube 3",
             "levels 2 2 -3",
+            "votes",
+            "votes 0",
+            "votes 7",
+            "votes 1 1 1 1",
+            "votes 3 1 1 1",
+            "votes 0 2 0 1 0",
+            "votes 100 101",
+            "votes 1 1 18446744073709551616",
+            "votes 1 1 100000000000000000000",
+            "votes 1 1 10000000000000000000000000000000000000000",
+            "votes 1 01",
+            "votes 1 +1",
+            "votes 1 -1",
+            "votes 1 ",
+            "vote 3",
+            "Votes 3",
         ] {
             is_called(line);
         }

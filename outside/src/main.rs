@@ -8,8 +8,9 @@ use std::time::{Duration, SystemTime};
 
 use outside::compare::{compare, Plan};
 use outside::measure::{measure, Program};
-use outside::model::{play_by, Family, Version};
+use outside::model::{play_by, Version};
 use outside::options::Options;
+use outside::plan;
 use outside::plan_compare::compare_calls;
 use outside::random::Random;
 use outside::rigs::{self, Lists};
@@ -21,10 +22,10 @@ const USAGE: &str = "\
 outside compare PLAYER_BINARY [--seed S] [--texts N] [--seconds T] [--jobs J]
                               [--no-spent] [--timeout T] [--shrink-seconds T] [--folder F] [--earlier]
 outside play FILE|- [--earlier]
-outside plan PROGRAM [--script] [--timeout T]
+outside plan PROGRAM [--script] [--seed S] [--timeout T]
 outside state PROGRAM [--script] [--seed S] [--rounds R] [--jobs J] [--no-spent]
                       [--no-misshapen] [--timeout T] [--folder F]
-outside generate --family grid:3|billiard:7|plane:5|levels:2,3,5|full:31|arbiter:31
+outside generate --family grid:3|billiard:7|plane:5|levels:2,3,5|votes:5,1,1,1|full:31|arbiter:31
                  --events K [--seed S] [--swell]";
 
 const MEASURE_USAGE: &str = "\
@@ -111,10 +112,11 @@ fn play_command(mut options: Options) -> Result<bool, String> {
 
 fn plan_command(mut options: Options) -> Result<bool, String> {
     let script = options.flag("--script");
+    let seed = options.value("--seed")?.unwrap_or_else(seed_of_the_moment);
     let patience = seconds(options.value("--timeout")?.unwrap_or(60));
     let binary = options.word("the plan program's file")?;
     options.finish()?;
-    compare_calls(&Subject::new(Path::new(&binary), patience)?, script)
+    compare_calls(&Subject::new(Path::new(&binary), patience)?, script, seed)
 }
 
 fn state_command(mut options: Options) -> Result<bool, String> {
@@ -171,9 +173,9 @@ fn measure_command(mut options: Options) -> Result<bool, String> {
     measure(&programs, &rigs.collect::<Result<Vec<_>, _>>()?, events, rounds, seed)
 }
 
-/// Request sets by name: `grid:3`, `billiard:7`, `plane:5`, `levels:2,3,5`;
-/// also `full:31`, where every set has all sites, and `arbiter:31`, where every
-/// set has site 1 alone.
+/// Request sets by name: `grid:3`, `billiard:7`, `plane:5`, `levels:2,3,5`,
+/// `votes:5,1,1,1`; also `full:31`, where every set has all sites, and
+/// `arbiter:31`, where every set has site 1 alone.
 fn lists(name: &str) -> Result<Lists, String> {
     named(name).ok_or(format!("{name:?} is no family with a listed parameter"))
 }
@@ -184,7 +186,7 @@ fn named(name: &str) -> Option<Lists> {
     match (kind, &parameters[..]) {
         ("full", &[n @ 1..=31]) => Some(rigs::full(n as usize)),
         ("arbiter", &[n @ 1..=31]) => Some(rigs::one_arbiter(n as usize)),
-        _ => Family::named(kind.as_bytes(), &parameters)?.lists().ok(),
+        _ => plan::lists(kind.as_bytes(), &parameters)?.ok(),
     }
 }
 

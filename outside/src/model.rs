@@ -4,7 +4,8 @@
 //! out the check for one (code 10). A saved text can: [`Rig::apply_judged`] has
 //! the check.
 //!
-//! It is the paper as request 2.3 amends it. A rig may be told to go by the
+//! It is the paper as request 2.3 amends it, with the family of request 2.5. A
+//! rig may be told to go by the
 //! version before instead: see [`Version`].
 
 pub mod desk;
@@ -16,6 +17,7 @@ pub mod rig;
 pub mod setup;
 pub mod shape;
 pub mod turn;
+pub mod votes;
 
 pub use desk::{Arbiter, Claim, Desk, Mode, Tie};
 pub use families::Family;
@@ -79,6 +81,8 @@ pub enum Refusal {
     Buffer = 13,
     /// A text that no state gives (request 2.2).
     NoSavedText = 14,
+    /// A vote is above 100, or all are 0 (request 2.5).
+    Votes = 16,
 }
 
 impl Refusal {

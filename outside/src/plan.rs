@@ -1,14 +1,15 @@
-//! The program `plan` of request 2.1: the sets of a family, printed just as
-//! the player reads them.
+//! The program `plan` of requests 2.1 and 2.5: the sets of a family, printed
+//! just as the player reads them.
 
-use crate::model::{Family, Refusal};
+use crate::model::{votes, Family, Refusal};
 use crate::rigs::{head, Lists};
 
 /// The words after the program's name, as bytes.
 pub type Words = Vec<Vec<u8>>;
 
 /// How `plan` is used.
-pub const USAGE: &str = "usage: ./plan grid SIDE | billiard Q | plane P | levels ROWS BAYS LEVELS\n";
+pub const USAGE: &str =
+    "usage: ./plan grid SIDE | billiard Q | plane P | levels ROWS BAYS LEVELS | votes VOTE ...\n";
 
 /// What a call comes to.
 #[derive(Clone, Debug, PartialEq, Eq)]
@@ -36,12 +37,19 @@ pub struct Printed {
 pub fn answer(words: &[Vec<u8>]) -> Answer {
     let Some((name, rest)) = words.split_first() else { return Answer::Usage };
     let numbers: Option<Vec<u64>> = rest.iter().map(|word| number(word)).collect();
-    let Some(family) = numbers.and_then(|numbers| Family::named(name, &numbers)) else {
-        return Answer::Usage;
-    };
-    match family.lists() {
-        Ok(lists) => Answer::Sets(lists),
-        Err(refusal) => Answer::Code(refusal),
+    match numbers.and_then(|numbers| lists(name, &numbers)) {
+        None => Answer::Usage,
+        Some(Ok(lists)) => Answer::Sets(lists),
+        Some(Err(refusal)) => Answer::Code(refusal),
+    }
+}
+
+/// The sets of the family of this name; nothing if there is no such name or it
+/// takes another number of numbers. As many votes as there are make N.
+pub fn lists(name: &[u8], numbers: &[u64]) -> Option<Result<Lists, Refusal>> {
+    match name {
+        b"votes" => Some(votes::lists(numbers)),
+        _ => Family::named(name, numbers).map(Family::lists),
     }
 }
 
@@ -90,6 +98,9 @@ mod tests {
         assert_eq!(printed("levels 1 1 2"), sets("sites=2\nset=1,2\nset=1,2\n"));
         assert_eq!(printed("levels 2 1 1"), sets("sites=2\nset=1,2\nset=1,2\n"));
         assert!(printed("plane 5").0.ends_with("set=6,10,14,18,22,31\nset=6,11,15,19,23,27\n"));
+        assert_eq!(printed("votes 7"), sets("sites=1\nset=1\n"));
+        assert_eq!(printed("votes 0 1 100"), sets("sites=3\nset=1,2,3\nset=2,3\nset=3\n"));
+        assert_eq!(printed("votes 1 1 1 1"), sets("sites=4\nset=1,2,3\nset=2,3,4\nset=1,3,4\nset=1,2,4\n"));
     }
 
     #[test]
@@ -112,23 +123,57 @@ mod tests {
         }
     }
 
+    /// The number of votes is judged before the votes.
+    #[test]
+    fn refusals_of_votes_are_one_line() {
+        let line = |count: usize, vote: &str| format!("votes{}", format!(" {vote}").repeat(count));
+        for (line, code) in [
+            (line(0, ""), 1),
+            (line(32, "0"), 1),
+            (line(32, "1"), 1),
+            (line(32, "101"), 1),
+            (line(40, "1"), 1),
+            (line(300, "100"), 1),
+            (line(1, "0"), 16),
+            (line(3, "0"), 16),
+            (line(31, "0"), 16),
+            (line(1, "101"), 16),
+            (line(1, "100") + " 101", 16),
+            (line(1, "18446744073709551616"), 16),
+            (line(1, "100000000000000000001"), 16),
+            (line(2, "1") + " 1000000000000000000000000000000000000001", 16),
+        ] {
+            assert_eq!(printed(&line), (format!("code={code}\n"), String::new(), 1), "{line}");
+        }
+    }
+
     #[test]
     fn wrong_use_is_told_on_standard_error() {
         for line in [
             "", "grid", "grid 3 3", "grid 0 0", "grid 03", "grid 00", "grid +3", "grid x", "cube 3",
-            "Grid 3", "levels 2 3", "levels 2 3 -5", "levels 0 0 x", "levels 2 3 5 1", "3 grid",
+            "Grid 3", "levels 2 3", "levels 2 3 -5", "levels 0 0 x", "levels 2 3 5 1", "3 grid", "Votes 1",
+            "vote 1", "votes x", "votes 1 x", "votes 101 x", "votes 1 01", "votes 00", "votes 0 0 -0",
+            "votes +1", "votes -1", "votes 1,1", "votes votes 1", "votes 1 grid 3",
         ] {
             assert_eq!(printed(line), (String::new(), USAGE.to_string(), 2), "{line}");
         }
         for words in [vec![b"".to_vec()], vec![b"grid".to_vec(), b"".to_vec()], vec![b"grid 3".to_vec()]] {
             assert_eq!(answer(&words), Answer::Usage);
         }
+        for (count, place) in [(1, 0), (31, 30), (32, 31), (40, 0), (40, 39)] {
+            let mut votes = vec![b"1".to_vec(); count];
+            votes[place].clear();
+            assert_eq!(answer(&[&[b"votes".to_vec()], &votes[..]].concat()), Answer::Usage);
+        }
     }
 
     /// `{ ./plan plane 5; cat events; } | ./play` works.
     #[test]
     fn the_player_reads_every_plan() {
-        for line in ["grid 5", "billiard 7", "plane 5", "levels 2 3 5", "levels 1 31 1", "levels 1 1 31"] {
+        for line in [
+            "grid 5", "billiard 7", "plane 5", "levels 2 3 5", "levels 1 31 1", "levels 1 1 31", "votes 7",
+            "votes 5 1 1 1", "votes 0 2 0 1 0",
+        ] {
             let text = printed(line).0 + "ask=1\n";
             let output = String::from_utf8(play(text.as_bytes())).unwrap();
             assert!(output.starts_with("step=1 code=0 inside=0 waiting=1 "), "{line}: {output}");

@@ -11,11 +11,16 @@ use crate::subject::{Called, Ending, Subject};
 /// So many differences are shown; then the comparison ends.
 const MOST_SHOWN: usize = 5;
 
+/// Of a call so many words are shown.
+const MOST_WORDS: usize = 50;
+
 /// Compares all calls, until too many differ. A script has an exit status, the
-/// program itself has none but 0. Gives whether all was equal.
-pub fn compare_calls(subject: &Subject, script: bool) -> Result<bool, String> {
+/// program itself has none but 0. The seed is that of the random votes. Gives
+/// whether all was equal.
+pub fn compare_calls(subject: &Subject, script: bool, seed: u64) -> Result<bool, String> {
     let started = Instant::now();
-    let calls = calls::all();
+    println!("seed {seed}");
+    let calls = calls::all(seed);
     let (mut sets, mut codes, mut usages) = (0, 0, 0);
     let mut differing = 0;
     for call in &calls {
@@ -43,7 +48,7 @@ pub fn compare_calls(subject: &Subject, script: bool) -> Result<bool, String> {
         equal + differing,
         started.elapsed().as_secs_f64()
     );
-    println!("{equal} calls were equal: {sets} with sets, {codes} with code=12, {usages} of wrong use");
+    println!("{equal} calls were equal: {sets} with sets, {codes} with a code, {usages} of wrong use");
     println!("{differing} calls differed");
     Ok(differing == 0)
 }
@@ -60,8 +65,9 @@ fn is_equal(expected: &Printed, called: &Called, script: bool) -> bool {
 }
 
 fn show(program: &Path, call: &[Vec<u8>], expected: &Printed, called: &Called, script: bool) {
-    let words: Vec<String> = call.iter().map(|word| shown(word)).collect();
-    println!("DIFFERENCE at {} {}", program.display(), words.join(" "));
+    let words: Vec<String> = call.iter().take(MOST_WORDS).map(|word| shown(word)).collect();
+    let cut = if call.len() > MOST_WORDS { format!(" … ({} words)", call.len()) } else { String::new() };
+    println!("DIFFERENCE at {} {}{cut}", program.display(), words.join(" "));
     let (line, ours, theirs) = first_difference(expected.output.as_bytes(), &called.output);
     if called.output != expected.output.as_bytes() {
         println!("  first differing line of standard output: {line}");

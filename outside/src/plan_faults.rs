@@ -3,12 +3,18 @@
 
 use crate::model::Family;
 use crate::plan::{answer, Answer, Printed, Words};
+use crate::vote_faults;
 
 /// Answers a call.
 pub type Planner = fn(&[Vec<u8>]) -> Printed;
 
 /// The planted faults, by the name under which they are asked for.
-pub const FAULTS: [(&str, Planner); 20] = [
+pub fn faults() -> impl Iterator<Item = (&'static str, Planner)> {
+    FAULTS.into_iter().chain(vote_faults::FAULTS)
+}
+
+/// The faults that have nothing to do with votes.
+const FAULTS: [(&str, Planner); 20] = [
     ("product-wraps", |words| with_sides(words, wrapped_product)),
     ("sides-have-32-bits", |words| with_sides(words, |sides| sides.map(|side| u64::from(side as u32)))),
     ("first-side-is-the-level", |words| with_sides(words, |[a, b, c]| [c, b, a])),
@@ -43,7 +49,7 @@ pub const FAULTS: [(&str, Planner); 20] = [
 
 /// Answers a call with a planted fault; nothing if there is no such fault.
 pub fn answer_with_fault(name: &str, words: &[Vec<u8>]) -> Option<Printed> {
-    let (_, planner) = FAULTS.iter().find(|(known, _)| *known == name)?;
+    let (_, planner) = faults().find(|(known, _)| *known == name)?;
     Some(planner(words))
 }
 
@@ -151,8 +157,8 @@ mod tests {
 
     #[test]
     fn the_calls_tell_every_fault() {
-        let calls = calls::all();
-        for (name, planner) in FAULTS {
+        let calls = calls::all(1);
+        for (name, planner) in faults() {
             let told = calls.iter().filter(|call| planner(call) != answer(call).printed()).count();
             assert!(told > 0, "{name}");
             assert!(told < calls.len(), "{name}");

@@ -1,6 +1,7 @@
-//! Request sets to play with: the families, and sets made at random.
+//! Request sets to play with: the families, and sets and votes made at random.
 
 use crate::model::setup::{members, set_of};
+use crate::model::votes::MOST_VOTES;
 use crate::model::{Family, Site, MOST_SITES};
 use crate::random::Random;
 
@@ -157,6 +158,52 @@ fn some_sites(random: &mut Random, n: usize, percent: usize) -> Vec<Site> {
     }
 }
 
+/// Votes of 1 to 31 desks from which a family is made.
+pub fn any_votes(random: &mut Random) -> Vec<u64> {
+    let n = any_size(random);
+    let mut votes = match random.below(6) {
+        0 => votes_up_to(random, n, MOST_VOTES),
+        1 => votes_up_to(random, n, 2),
+        2 => few_with_votes(random, n),
+        3 => vec![random.between(1, MOST_VOTES as usize) as u64; n],
+        4 => with_a_main_desk(random, n),
+        _ => twice_over(random, n),
+    };
+    if votes.iter().all(|&vote| vote == 0) {
+        let place = random.below(votes.len());
+        votes[place] = random.between(1, MOST_VOTES as usize) as u64;
+    }
+    votes
+}
+
+fn votes_up_to(random: &mut Random, n: usize, most: u64) -> Vec<u64> {
+    (0..n).map(|_| random.between(0, most as usize) as u64).collect()
+}
+
+fn few_with_votes(random: &mut Random, n: usize) -> Vec<u64> {
+    let percent = random.between(50, 95);
+    let mut votes = votes_up_to(random, n, MOST_VOTES);
+    votes.iter_mut().filter(|_| random.percent(percent)).for_each(|vote| *vote = 0);
+    votes
+}
+
+/// One desk has as many votes as all others together, or one fewer or more.
+fn with_a_main_desk(random: &mut Random, n: usize) -> Vec<u64> {
+    let mut votes = votes_up_to(random, n, MOST_VOTES / n as u64);
+    let main = random.below(n);
+    votes[main] = 0;
+    let others: u64 = votes.iter().sum();
+    votes[main] = (others + random.below(3) as u64).saturating_sub(1);
+    votes
+}
+
+/// The same votes twice, so that each half of the round has half of the sum.
+fn twice_over(random: &mut Random, n: usize) -> Vec<u64> {
+    let most = random.pick(&[1, 3, MOST_VOTES]);
+    let half = votes_up_to(random, n.div_ceil(2).min(MOST_SITES / 2), most);
+    [&half[..], &half].concat()
+}
+
 /// The lines `sites=` and `set=` for the given sets.
 pub fn head(lists: &[Vec<Site>]) -> String {
     let mut text = format!("sites={}\n", lists.len());
@@ -175,7 +222,7 @@ pub fn set_line(list: &[Site]) -> String {
 #[cfg(test)]
 mod tests {
     use super::*;
-    use crate::model::{Refusal, Rig};
+    use crate::model::{votes, Refusal, Rig};
 
     #[test]
     fn every_family_is_chosen() {
@@ -198,6 +245,26 @@ mod tests {
             assert!(Rig::from_lists(&lists).is_ok(), "{lists:?}");
         }
         assert!(sizes[1..].iter().all(|&count| count > 0));
+    }
+
+    #[test]
+    fn votes_of_every_kind_come_up() {
+        let mut random = Random::new(4);
+        let mut sizes = [0; 32];
+        let (mut halves, mut mains, mut zeros, mut hundreds) = (0, 0, 0, 0);
+        for _ in 0..2000 {
+            let votes = any_votes(&mut random);
+            assert_eq!(votes::judge(&votes), Ok(()), "{votes:?}");
+            let sum: u64 = votes.iter().sum();
+            sizes[votes.len()] += 1;
+            halves += usize::from(votes.iter().any(|vote| 2 * vote == sum));
+            mains += usize::from(votes.iter().any(|vote| 2 * vote > sum));
+            zeros += usize::from(votes.contains(&0));
+            hundreds += usize::from(votes.contains(&MOST_VOTES));
+        }
+        assert!(sizes[1..].iter().all(|&count| count > 0));
+        let counts = [halves, mains, zeros, hundreds];
+        assert!(counts.iter().all(|&count| count > 50), "{counts:?}");
     }
 
     #[test]

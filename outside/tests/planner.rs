@@ -21,10 +21,10 @@ fn outside(words: &[&str], environment: &[(&str, &str)]) -> Output {
 
 #[test]
 fn the_reading_equals_itself() {
-    let output = outside(&["plan", REFERENCE], &[]);
+    let output = outside(&["plan", REFERENCE, "--seed", "3"], &[]);
     let printed = String::from_utf8(output.stdout).unwrap();
     assert_eq!(output.status.code(), Some(0), "{printed}");
-    let count = outside::calls::all().len();
+    let count = outside::calls::all(3).len();
     assert!(printed.contains(&format!("\n{count} calls were equal: ")), "{printed}");
     assert!(printed.ends_with("\n0 calls differed\n"), "{printed}");
     assert!(!printed.contains("DIFFERENCE"), "{printed}");
@@ -52,24 +52,31 @@ fn planted_faults_are_found() {
         "usage-to-standard-output",
         "wrong-use-is-silent",
         "last-line-has-no-end",
+        "half-is-enough",
+        "runs-start-late",
+        "runs-stop-late",
+        "runs-end-at-the-last-site",
+        "votes-judged-before-their-number",
+        "vote-100-is-refused",
+        "desks-without-votes-are-skipped",
     ] {
         let subject = program(REFERENCE).with("OUTSIDE_FAULT", fault);
-        assert_eq!(compare_calls(&subject, false), Ok(false), "{fault}");
+        assert_eq!(compare_calls(&subject, false, 1), Ok(false), "{fault}");
     }
 }
 
 #[test]
 fn the_script_has_an_exit_status_and_the_program_has_none() {
     let script = program(REFERENCE).with("OUTSIDE_SCRIPT", "1");
-    assert_eq!(compare_calls(&script, true), Ok(true));
-    assert_eq!(compare_calls(&script, false), Ok(false));
-    assert_eq!(compare_calls(&program(REFERENCE), true), Ok(false));
+    assert_eq!(compare_calls(&script, true, 1), Ok(true));
+    assert_eq!(compare_calls(&script, false, 1), Ok(false));
+    assert_eq!(compare_calls(&program(REFERENCE), true, 1), Ok(false));
 }
 
 #[test]
 fn other_programs_are_no_plan() {
     for other in ["/bin/true", "/bin/echo"] {
-        assert_eq!(compare_calls(&program(other), false), Ok(false), "{other}");
+        assert_eq!(compare_calls(&program(other), false, 1), Ok(false), "{other}");
     }
 }
 

@@ -2,9 +2,9 @@
 //! These do not compare two programs: they ask whether the paper was read
 //! right.
 
-use outside::model::{Body, Event, Family, Mode, Rig, Site, Version};
+use outside::model::{votes, Body, Event, Family, Mode, Rig, Site, Version};
 use outside::random::Random;
-use outside::rigs::{meeting, meeting_of_size, Lists};
+use outside::rigs::{any_votes, meeting, meeting_of_size, Lists};
 use outside::saved::{read_text, text_of};
 use outside::schedule::Schedule;
 
@@ -138,6 +138,14 @@ fn runs_of_the_families_keep_the_promises() {
     for (seed, family) in (0..).zip(Family::all()) {
         let lists = family.lists().unwrap();
         check_run(&lists, &mut Schedule::busy(Random::new(seed)), 3_000);
+    }
+}
+
+#[test]
+fn runs_on_votes_keep_the_promises() {
+    for seed in 0..100 {
+        let lists = votes::lists(&any_votes(&mut Random::new(seed))).unwrap();
+        check_run(&lists, &mut Schedule::busy(Random::new(seed)), 1_000);
     }
 }
 

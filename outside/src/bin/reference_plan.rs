@@ -9,7 +9,7 @@ use std::os::unix::ffi::OsStringExt;
 use std::process::ExitCode;
 
 use outside::plan::{answer, Words};
-use outside::plan_faults::{answer_with_fault, FAULTS};
+use outside::plan_faults::{answer_with_fault, faults};
 
 fn main() -> ExitCode {
     let words: Words = std::env::args_os().skip(1).map(OsStringExt::into_vec).collect();
@@ -18,7 +18,7 @@ fn main() -> ExitCode {
         Ok(name) => match answer_with_fault(&name, &words) {
             Some(printed) => printed,
             None => {
-                let names: Vec<&str> = FAULTS.iter().map(|(name, _)| *name).collect();
+                let names: Vec<&str> = faults().map(|(name, _)| name).collect();
                 eprintln!("no such fault: {name}\nthere are: {}", names.join(", "));
                 return ExitCode::from(3);
             }
