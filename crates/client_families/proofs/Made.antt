@@ -1,9 +1,10 @@
 -- What a family's buffer of zeros, generated, gives the caller, by the parameter.
-use mathlib.Core.Path.{_≡_}
+use mathlib.Core.Path.{_≡_, sym, _∙_}
 use mathlib.Core.List.{List}
 use Prim.Native.Nat.{ℕ}
 use native.Mathlib.Omega.{arith}
 use lib.ListN.{replicate}
+use borrow.Author.Tests.{eq-eqb, ne-eqb}
 use Rattle.rig.specs.Limits.{siteLimit}
 use Rattle.basics.proofs.Basics.{by-bool}
 use Rattle.model.specs.Setup.{setupCode, restingRig, noRig}
@@ -11,8 +12,9 @@ use Rattle.family_rules.specs.declared.Family.{Family}
 use Rattle.families.specs.declared.Made.{Made}
 use Rattle.family_rules.specs.Family.{listed}
 use Rattle.families.specs.Made.{familyCode, made, filled}
+use Rattle.families.specs.ByVotes.{votesCode, filledByVotes}
 use Rattle.setup.specs.Answer.{setupAnswer}
-use Rattle.client_families.specs.Rig.{familyRig}
+use Rattle.client_families.specs.Rig.{familyRig, votesRig}
 
 module _ (f : Family) {r : Made} {after : List ℕ} (m : r ≡ made f siteLimit) (s : after ≡ filled f (replicate siteLimit 0)) where
   -- a family that is made and that setup accepts
@@ -30,3 +32,16 @@ module _ (f : Family) {r : Made} {after : List ℕ} (m : r ≡ made f siteLimit)
       by-bool (listed f)
       (λ l. absurd (n (rw (m, l))))
       (λ l. rw (m, s, l))
+
+-- the same of votes
+module _ (n : ℕ) (votes : List ℕ) {r : ℕ} {after : List ℕ} (c : r ≡ votesCode n votes siteLimit) (s : after ≡ filledByVotes n votes (replicate siteLimit 0)) where
+  pub votes-rig : r ≡ 0 → setupCode n after ≡ 0 → setupAnswer n after ≡ votesRig n votes
+  unfolding filledByVotes votesRig setupAnswer
+  votes-rig e a =
+      let z = eq-eqb (votesCode n votes siteLimit) 0 (sym c ∙ e) in
+      let b = rw (s, z) at a in
+      rw (s, z, b)
+
+  pub refused-votes : (r ≡ 0 → ⊥) → record { code = r; rig = restingRig 0 after } ≡ votesRig n votes
+  unfolding filledByVotes votesRig noRig
+  refused-votes d = rw (s, ne-eqb (votesCode n votes siteLimit) 0 (λ z. d (c ∙ z)), ← c)

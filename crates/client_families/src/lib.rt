@@ -1,13 +1,14 @@
 // A caller of the calls on families, and of `setup::setup`: each promise follows from their contracts alone.
 use families::billiard_set;
 use families::generate;
+use families::generate_by_votes;
 use family_rules::Family;
 use rig::Rig;
 use setup::Answer;
 use setup::resting;
 use setup::setup;
 ghost use mathlib.Core.Path.{_≡_};
-ghost use Rattle.client_families.specs.Rig.{familyRig, nineSets};
+ghost use Rattle.client_families.specs.Rig.{familyRig, votesRig, nineSets};
 
 // Generates a family's sets and sets them up.
 pub fn family_rig(family: Family) -> Answer
@@ -22,6 +23,21 @@ pub fn family_rig(family: Family) -> Answer
         };
     }
     setup(made.size, &sets)
+}
+
+// Generates the sets of n sites by their votes and sets them up.
+pub fn votes_rig(n: u64, votes: &[u64; Rig::SITES]) -> Answer
+    ensures { λ r. ⌜ r ≡ votesRig n (now (votes .entry)) ⌝ }
+{
+    let mut sets = [0u64; Rig::SITES];
+    let code = generate_by_votes(n, votes, &mut sets);
+    if code != 0 {
+        return Answer {
+            code: code,
+            rig: resting(0, sets),
+        };
+    }
+    setup(n, &sets)
 }
 
 // The sets of sites 11 and 34 in the billiard of q = 9, by the rule itself.

@@ -1,5 +1,7 @@
 // A caller of the planner: its promise follows from the contract of `plan_text::plan` alone.
 use plan_lines::PlanPage;
+use plan_numbers::nothing_given;
+use plan_numbers::with_word;
 use plan_text::Output;
 use plan_text::plan;
 ghost use mathlib.Core.Path.{_≡_};
@@ -9,5 +11,5 @@ ghost use Rattle.client_plan.specs.Whole.{gridOutput, gridPage};
 pub fn plan_grid(side: &[u8], page: &mut PlanPage) -> Output
     ensures { λ r. ⌜ (r ≡ gridOutput (now (side .entry))) × (now (page .exit) ≡ gridPage (now (side .entry)) (now (page .entry))) ⌝ }
 {
-    plan(3, b"grid", side, b"", b"", page)
+    plan(b"grid", with_word(nothing_given(), side), page)
 }

@@ -7,11 +7,13 @@ use Rattle.rig.specs.Limits.{siteLimit}
 use Rattle.model.specs.Sets.{names}
 use Rattle.family_rules.specs.declared.Family.{Family}
 use Rattle.family_rules.specs.Family.{listed, sizeOf, setsOf}
+use Rattle.family_votes.specs.Votes.{setsByVotes}
+use Rattle.families.specs.ByVotes.{votesCode}
 use Rattle.player_grammar.specs.declared.Line.the-variants.{Sites, Set}
 use Rattle.player_grammar.specs.Grammar.{meaningOf}
 use Rattle.player_text.specs.Player.{transcript, output}
 use Rattle.plan_lines.specs.Lines.{sitesBytes, setBytes}
-use Rattle.plan_text.specs.Plan.{familyText}
+use Rattle.plan_text.specs.Plan.{familyText, votesText}
 use Rattle.plan_read_back.specs.Ready.{ready}
 
 -- the player's grammar reads a printed line `sites=` back as the same number, for every number from 0 to 999
@@ -25,3 +27,9 @@ SetRead = (set : ℕ) → names siteLimit set ≡ true → meaningOf (setBytes s
 -- a printed family always sets up: whatever follows its lines is played on its fresh rig
 abbrev pub FamilySetUp : Type 0
 FamilySetUp = (f : Family) → listed f ≡ true → (rest : List ℕ) → output (familyText f ++ rest) ≡ transcript (ready (sizeOf f) (setsOf f)) [] rest
+
+-- and so does a family by votes
+abbrev pub VotesSetUp : Type 0
+VotesSetUp =
+    (n : ℕ) (votes : List ℕ) → votesCode n votes siteLimit ≡ 0
+    → (rest : List ℕ) → output (votesText n votes ++ rest) ≡ transcript (ready n (setsByVotes n votes)) [] rest

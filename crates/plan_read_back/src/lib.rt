@@ -1,7 +1,7 @@
 // What the player makes of a printed family. The claims are the contracts of functions, so that they are checked with the code and show in the
 // list of proved functions. Each answers 0.
 ghost use mathlib.Core.Path.{_≡_};
-ghost use Rattle.plan_read_back.specs.ReadBack.{SitesRead, SetRead, FamilySetUp};
+ghost use Rattle.plan_read_back.specs.ReadBack.{SitesRead, SetRead, FamilySetUp, VotesSetUp};
 
 // Each printed line reads back as what was printed.
 pub fn lines_read() -> u8
@@ -10,9 +10,9 @@ pub fn lines_read() -> u8
     0
 }
 
-// A printed family always sets up.
+// A printed family always sets up, by its parameters or by votes.
 pub fn family_set_up() -> u8
-    ensures { λ r. ⌜ (r ≡ 0) × FamilySetUp ⌝ }
+    ensures { λ r. ⌜ (r ≡ 0) × FamilySetUp × VotesSetUp ⌝ }
 {
     0
 }

@@ -7,19 +7,19 @@ use Rattle.client_plan.proofs.plan_grid.Tie as tie
 slice-aggregate-plan : tie.Need-slice-aggregate-plan
 slice-aggregate-plan c = search needs
 
-slice-aggregate-plan-2 : tie.Need-slice-aggregate-plan-2
-slice-aggregate-plan-2 c = search needs
+nothing-given-requires : tie.Need-nothing-given-requires
+nothing-given-requires c κs = search needs
 
-slice-aggregate-plan-3 : tie.Need-slice-aggregate-plan-3
-slice-aggregate-plan-3 c = search needs
+with-word-requires : tie.Need-with-word-requires
+with-word-requires c κs = search needs
 
 plan-requires : tie.Need-plan-requires
 plan-requires c κs = search needs
 
 returns : tie.Need-returns
-returns c = planned-grid _ _ _ _ (c .plan .ensures)
+returns c = planned-grid _ _ _ _ (rw (c .before .before .with-word .ensures, c .before .before .before .nothing-given .ensures) at (c .plan .ensures))
 
 pub plan-grid-spec : {M : Type 1} → statement M
 plan-grid-spec =
     tie.close
-    (tie.spec slice-aggregate-plan slice-aggregate-plan-2 slice-aggregate-plan-3 plan-requires returns)
+    (tie.spec slice-aggregate-plan nothing-given-requires with-word-requires plan-requires returns)
