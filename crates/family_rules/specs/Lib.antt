@@ -1,2 +1,2 @@
--- The four families of request sets.
+-- The four families of request sets that have parameters.
 pub mod Family
