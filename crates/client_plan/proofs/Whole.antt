@@ -3,7 +3,6 @@ use Prim.Native.Nat.{ℕ}
 use mathlib.Core.List.{List}
 use mathlib.Core.Path.{_≡_}
 use Rattle.player_printing.proofs.Lines.{printed-whole}
-use Rattle.plan_numbers.specs.declared.Given.{Given}
 use Rattle.plan_numbers.specs.Given.{nothingGiven, withWord, withWords}
 use Rattle.plan_words.specs.Words.{gridWord}
 use Rattle.plan_text.specs.declared.Output.{Output}

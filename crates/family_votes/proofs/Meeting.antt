@@ -1,7 +1,7 @@
 -- "that two sets meet": two runs that share no site would have more than all votes.
 use Prim.Native.Nat.{ℕ, zero, suc, _+_, _-_, _*_, _≤_, _<_}
-use mathlib.Core.Path.{_≡_, refl, sym, _∙_}
-use mathlib.Core.Bool.{Bool, true}
+use mathlib.Core.Path.{_≡_, refl, _∙_}
+use mathlib.Core.Bool.{true}
 use mathlib.Core.List.{List}
 use native.Mathlib.Omega.{arith}
 use lib.Dec.{leb, ltb}
@@ -11,7 +11,7 @@ use Rattle.basics.proofs.Basics.{by-bool}
 use Rattle.family_sets.specs.Meeting.{SiteTo, Common}
 use Rattle.family_sets.specs.Rule.{codeBy}
 use Rattle.family_sets.proofs.Rule.{rule-accepted}
-use Rattle.family_votes.specs.Votes.{voteSum, siteFrom, taken, exceedsHalf, runLength, inRun, takes}
+use Rattle.family_votes.specs.Votes.{voteSum, siteFrom, taken, exceedsHalf, runLength, takes}
 use Rattle.family_votes.proofs.Runs.{from-below, from-past, run-has}
 use Rattle.family_votes.proofs.Sums.{taken-more, taken-below, taken-past}
 use Rattle.family_votes.proofs.Shortest.{run-lowest}

@@ -2,8 +2,7 @@
 use Prim.Native.Nat.{ℕ, _+_}
 use mathlib.Core.List.{[], _∷_, _++_}
 use mathlib.Core.Path.{_≡_, refl, _∙_}
-use native.Mathlib.Omega.{arith}
-use lib.ListN.{length, length-append}
+use lib.ListN.{length-append}
 use Rattle.plan_numbers.specs.declared.Given.{Given}
 use Rattle.plan_numbers.specs.Given.{nothingGiven, withWords}
 use Rattle.plan_numbers.proofs.Words.{words-more}

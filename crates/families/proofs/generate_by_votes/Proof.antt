@@ -1,5 +1,5 @@
 -- `families::generate_by_votes` meets its contract, for every N and all buffers.
-use mathlib.Core.Path.{refl, sym, _∙_}
+use mathlib.Core.Path.{sym, _∙_}
 use borrow.Author.Needs.{needs}
 use borrow.Author.Tests.{eq-eqb, ne-eqb}
 use Rattle.families.specs.ByVotes.{filledByVotes}

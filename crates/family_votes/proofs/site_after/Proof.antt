@@ -1,5 +1,4 @@
 -- `site_after`: by whether site m is the last.
-use mathlib.Core.Path.{sym}
 use borrow.Author.Needs.{needs}
 use borrow.Author.Tests.{eq-eqb, ne-eqb}
 use Rattle.family_votes.specs.Votes.{siteAfter}

@@ -1,5 +1,4 @@
 -- `votes_listed`: all votes are 0 exactly where their sum is.
-use mathlib.Core.Path.{sym, _∙_}
 use borrow.Author.Needs.{needs}
 use Rattle.basics.proofs.Tests.{failed, passed}
 use Rattle.family_votes.specs.Votes.{votesListed}

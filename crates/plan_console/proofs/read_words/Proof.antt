@@ -1,6 +1,6 @@
 -- `read_words`: as many words were read as the loop has had turns.
 use Prim.Native.Nat.{_≤_, _-_, _+_}
-use mathlib.Core.Path.{_≡_, refl}
+use mathlib.Core.Path.{_≡_}
 use native.Mathlib.Omega.{arith}
 use borrow.Author.Needs.{needs}
 use Rattle.plan_console.specs.Planned.{ReadsWords}

@@ -1,5 +1,5 @@
 -- `with_word`: by whether the word is a number.
-use mathlib.Core.Path.{sym, _∙_}
+use mathlib.Core.Path.{_∙_}
 use borrow.Author.Needs.{needs}
 use Rattle.plan_numbers.specs.Given.{withRead}
 use Rattle.plan_numbers.proofs.with_word.Statement.{statement}
