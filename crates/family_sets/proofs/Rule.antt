@@ -1,12 +1,14 @@
 -- The sets that a rule makes, and that setup accepts them where the rule names a common site for every two.
-use Prim.Native.Nat.{ℕ, zero, suc}
+use Prim.Native.Nat.{ℕ, zero, suc, _+_, _≤_, _<_}
 use mathlib.Core.Path.{_≡_, refl, sym, _∙_}
 use mathlib.Core.Bool.{Bool, true}
-use mathlib.Core.List.{[], _∷_}
+use mathlib.Core.List.{List, [], _∷_}
+use native.Mathlib.Nat.{le-antisymm}
+use native.Mathlib.Numerals.{add-one}
 use native.Mathlib.Omega.{arith}
 use lib.Dec.{eqb}
-use lib.ListN.{length, length-append, List·getD-append}
-use lib.Seq.{getD-append-seam}
+use lib.ListN.{length, take, set, length-append, List·getD-append}
+use lib.Seq.{getD-append-seam, take-all, take-suc-set}
 use borrow.Author.Tests.{eqb-true, eqb-false, le-leb, lt-ltb}
 use Rattle.rig.specs.Limits.{siteLimit}
 use Rattle.basics.proofs.Basics.{by-bool, clash, and-true, not-of}
@@ -45,6 +47,16 @@ module _ (takes : ℕ → ℕ → Bool) (size : ℕ) where
       (λ t. let d = eqb-false i n t in
       rw (List·getD-append (setsUpTo takes size n) (setBy takes size (suc n) ∷ []) 0 i (omega arith))
       (set-of-site n (suc i) (omega arith, omega arith)))
+
+  -- a buffer that is filled entry by entry: one entry more, and all of them
+  pub filled-more : (sets : List ℕ) (i entry : ℕ) → i < length sets → take i sets ≡ setsUpTo takes size i → entry ≡ setBy takes size (i + 1)
+      → take (i + 1) (set sets i entry) ≡ setsUpTo takes size (i + 1)
+  unfolding setsUpTo
+  filled-more sets i entry h e f = rw (add-one, take-suc-set sets i, e, f, add-one)
+
+  pub filled-all : (sets : List ℕ) (i : ℕ) → length sets ≡ siteLimit → i ≤ siteLimit → siteLimit ≤ i → take i sets ≡ setsUpTo takes size i
+      → sets ≡ setsUpTo takes size siteLimit
+  filled-all sets i l a b e = sym (take-all siteLimit sets (omega arith)) ∙ (rw (le-antisymm a b) at e)
 
   -- "Entries past N become empty": the set of a site of the family
   set-of-rule : (n : ℕ) → SiteTo size n → setBy takes size n ≡ setOf (takes n) size

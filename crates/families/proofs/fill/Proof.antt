@@ -1,14 +1,12 @@
 -- `families::fill` meets its contract. The loop's invariant: the first i entries are the sets of sites 1 to i.
-use Prim.Native.Nat.{_≤_, _-_, _<_}
+use Prim.Native.Nat.{_≤_, _-_}
 use mathlib.Core.Path.{_≡_, refl, sym, _∙_}
-use native.Mathlib.Nat.{le-antisymm}
-use native.Mathlib.Numerals.{add-one}
 use native.Mathlib.Omega.{arith}
-use lib.Seq.{take-all, take-suc-set}
 use lib.ListN.{length, take, length-set}
 use borrow.Author.Needs.{needs}
 use Rattle.rig.specs.Limits.{siteLimit}
 use Rattle.family_sets.specs.Rule.{setsUpTo}
+use Rattle.family_sets.proofs.Rule.{filled-more, filled-all}
 use Rattle.family_rules.specs.Family.{sizeOf, hasSite}
 use Rattle.family_rules.proofs.Parameters.{listed-computed}
 use Rattle.families.proofs.fill.Statement.{statement}
@@ -43,19 +41,15 @@ loop-less : tie.Need-loop-less Inv-loop μ-loop
 loop-less c = search needs
 
 loop-again : tie.Need-loop-again Inv-loop μ-loop
-unfolding setsUpTo
 loop-again c =
     let w = c .before .before .loop in
-    let h : w .i < length (w .sets) = omega arith in
-    (omega arith, simp length-set (w .inv .1), rw (add-one, take-suc-set (w .sets) (w .i), w .inv .2, c .set-at .ensures, add-one))
+    (omega arith, simp length-set (w .inv .1), filled-more _ _ (w .sets) (w .i) _ (omega arith) (w .inv .2) (c .set-at .ensures))
 
 same-length : tie.Need-same-length Inv-loop μ-loop
 same-length c = c .before .loop .inv .1 ∙ sym (c .before .before .before .pre .1)
 
 returns : tie.Need-returns Inv-loop μ-loop
-returns c =
-    let w = c .before .loop in
-    sym (take-all siteLimit (w .sets) (omega arith)) ∙ (rw (le-antisymm (w .inv .0) (c .loop-test .left)) at (w .inv .2))
+returns c = let w = c .before .loop in filled-all _ _ (w .sets) (w .i) (w .inv .1) (w .inv .0) (c .loop-test .left) (w .inv .2)
 
 pub fill-spec : {M : Type 1} → statement M
 fill-spec =
