@@ -4,4 +4,5 @@ pub mod Runs
 pub mod Sums
 pub mod Shortest
 pub mod Meeting
+pub mod Unread
 pub mod Examples

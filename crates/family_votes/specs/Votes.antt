@@ -64,6 +64,12 @@ takes size votes n = inRun size (runLength size votes n) n
 abbrev pub setsByVotes : ℕ → List ℕ → List ℕ
 setsByVotes size votes = setsBy (takes size votes) size
 
+-- "entries past N are not read": votes that are the same at the sites 1 to N are listed or not alike, and give the same sets
+abbrev pub PastUnread : Type 0
+PastUnread =
+    (size : ℕ) (votes others : List ℕ) → ((n : ℕ) → SiteTo size n → at 0 votes n ≡ at 0 others n)
+    → (votesListed size votes ≡ votesListed size others) × (setsByVotes size votes ≡ setsByVotes size others)
+
 -- "no shorter run from n would do": the set is a run from site n on whose votes exceed half of the sum, and those of a shorter run do not
 pub record ShortestRun (size : ℕ) (votes : List ℕ) (n set : ℕ) : Type 0 where
   pub length : ℕ

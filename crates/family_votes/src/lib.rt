@@ -7,7 +7,7 @@ ghost use Rattle.model.specs.Sets.{setOf};
 ghost use Rattle.family_sets.specs.Meeting.{SiteTo};
 ghost use Rattle.family_sets.specs.Rule.{setBy};
 ghost use Rattle.family_votes.specs.Votes.{noneAbove, votesListed, voteSum, siteAfter, runLength, inRun, takes};
-ghost use Rattle.family_votes.specs.Votes.{VotesFit, RunsShortest, VotesMeet};
+ghost use Rattle.family_votes.specs.Votes.{VotesFit, PastUnread, RunsShortest, VotesMeet};
 
 // "each 0 to 100"
 const VOTE_MOST: u64 = 100;
@@ -110,15 +110,22 @@ fn site_after(size: u64, m: u64) -> u64
     m + 1
 }
 
-// What holds for every N and all votes that are not all 0 is the contract of functions, so that it is checked with the code and shows in the list of
-// proved functions. Each answers 0. Every two sets meet.
+// What holds for every N is the contract of functions, so that it is checked with the code and shows in the list of proved functions. Each answers 0.
+// Entries past N are not read.
+pub fn past_unread() -> u8
+    ensures { λ r. ⌜ (r ≡ 0) × PastUnread ⌝ }
+{
+    0
+}
+
+// Every two sets meet, of all votes that are not all 0.
 pub fn votes_meet() -> u8
     ensures { λ r. ⌜ (r ≡ 0) × VotesMeet ⌝ }
 {
     0
 }
 
-// No shorter run would do.
+// And no shorter run would do.
 pub fn runs_shortest() -> u8
     ensures { λ r. ⌜ (r ≡ 0) × RunsShortest ⌝ }
 {
