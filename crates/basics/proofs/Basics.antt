@@ -154,13 +154,14 @@ lowest-within p (suc n) r e =
     (λ z. by-bool (p (suc n)) (λ t. let u = rw (z, t) at e in omega arith) (λ t. let u = rw (z, t) at e in omega arith))
     (λ z. let u = rw z at e in omega arith)
 
--- it passes and none below it does, or none of 1 to n passes
+-- r is the lowest of 1 to n that passes
 pub record IsLowest (p : ℕ → Bool) (n r : ℕ) : Type 0 where
   pub low : 1 ≤ r
   pub high : r ≤ n
   pub passes : p r ≡ true
   pub below : (k : ℕ) → 1 ≤ k → k < r → p k ≡ false
 
+-- there is one, or none passes
 pub lowest-is : (p : ℕ → Bool) (n : ℕ) → IsLowest p n (lowest p n) ⊎ ((lowest p n ≡ 0) × ((k : ℕ) → 1 ≤ k → k ≤ n → p k ≡ false))
 unfolding lowest
 lowest-is p zero = inr (refl, λ k f g. absurd (omega arith))

@@ -1,4 +1,4 @@
-// A caller of the planner: its promise follows from the contract of `plan_text::plan` alone.
+// A caller of the planner: its promise follows from the contracts of `plan_text::plan` and of the calls that read a word alone.
 use plan_lines::PlanPage;
 use plan_numbers::nothing_given;
 use plan_numbers::with_word;

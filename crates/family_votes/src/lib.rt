@@ -46,7 +46,7 @@ pub fn vote_sum(size: u64, votes: &[u64]) -> u64
     sum
 }
 
-// An inner call: the set of site n, whose votes exceed half of the sum; 0 for a number that is no site.
+// An inner call: the set of site n; 0 for a number that is no site.
 pub fn set_by_votes(size: u64, votes: &[u64], sum: u64, n: u64) -> u64
     requires { ⌜ VotesFit size (now votes) × (sum ≡ voteSum (now votes) size) ⌝ }
     ensures { λ r. ⌜ r ≡ setBy (takes size (now (votes .entry))) size n ⌝ }
@@ -91,7 +91,7 @@ fn run_set(size: u64, n: u64, length: u64) -> u64
     set
 }
 
-// With site m, which is not in the set.
+// With the bit of site m added, for a set that does not have it.
 fn with_new_site(set: u64, m: u64) -> u64
     requires { ⌜ SiteTo siteLimit m × (set < 2 ^ siteLimit) ⌝ }
     ensures { λ r. ⌜ r ≡ set + 2 ^ (m - 1) ⌝ }

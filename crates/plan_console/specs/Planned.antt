@@ -1,4 +1,5 @@
--- What a call promises that reads its words from the operating system: some words were read, so many as there are, and their command is planned.
+-- What a call promises that reads its words from the operating system: some words were read, as many as arguments were asked for, and their
+-- command is planned.
 use Prim.Native.Nat.{ℕ}
 use mathlib.Core.List.{List}
 use mathlib.Core.Path.{_≡_}
