@@ -7,12 +7,18 @@ use crate::model::{
     play, play_by, Arbiter, Body, Change, Event, Message, Mode, Refusal, Rig, Site, Version, MOST_ACCEPTED,
     MOST_UNDER_WAY,
 };
+use crate::set_faults;
 
 /// Plays a text.
 pub type Player = fn(&[u8]) -> Vec<u8>;
 
 /// The planted faults, by the name under which they are asked for.
-pub const FAULTS: [(&str, Player); 19] = [
+pub fn faults() -> impl Iterator<Item = (&'static str, Player)> {
+    FAULTS.into_iter().chain(set_faults::FAULTS)
+}
+
+/// The faults that have nothing to do with sets inside others.
+const FAULTS: [(&str, Player); 19] = [
     ("early-release-is-stray", |text| play_with(text, stray_early_release)),
     ("any-transfer-counts", |text| play_with(text, any_transfer)),
     ("inquire-before-reply-is-dropped", |text| play_with(text, dropped_inquire)),
@@ -36,7 +42,7 @@ pub const FAULTS: [(&str, Player); 19] = [
 
 /// Plays a text with a planted fault; nothing if there is no such fault.
 pub fn play_with_fault(name: &str, text: &[u8]) -> Option<Vec<u8>> {
-    let (_, player) = FAULTS.iter().find(|(known, _)| *known == name)?;
+    let (_, player) = faults().find(|(known, _)| *known == name)?;
     Some(player(text))
 }
 
@@ -259,7 +265,7 @@ mod tests {
     /// first few thousand random ones.
     #[test]
     fn the_texts_tell_every_fault() {
-        let mut left: Vec<_> = FAULTS.to_vec();
+        let mut left: Vec<_> = faults().collect();
         let mut try_text = |text: &[u8]| {
             let right = play(text);
             left.retain(|(_, player)| player(text) == right);
@@ -274,6 +280,19 @@ mod tests {
             if try_text(&text.bytes) == 0 {
                 break;
             }
+        }
+        let names: Vec<&str> = left.iter().map(|(name, _)| *name).collect();
+        assert_eq!(names, Vec::<&str>::new());
+    }
+
+    /// The random texts alone tell the faults in judging sets inside others.
+    #[test]
+    fn random_texts_tell_the_faults_of_sets() {
+        let mut left: Vec<_> = set_faults::FAULTS.to_vec();
+        for place in 0..3_000 {
+            let text = texts::random(&mut Random::for_place(2, place));
+            let right = play(&text.bytes);
+            left.retain(|(_, player)| player(&text.bytes) == right);
         }
         let names: Vec<&str> = left.iter().map(|(name, _)| *name).collect();
         assert_eq!(names, Vec::<&str>::new());

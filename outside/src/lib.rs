@@ -1,5 +1,5 @@
-//! A second opinion on document 01 ("The show key") and requests 2.1 to 2.3 and
-//! 2.5.
+//! A second opinion on document 01 ("The show key") and requests 2.1 to 2.3, 2.5
+//! and 2.6.
 //!
 //! * [`model`] is the paper itself, written from the paper alone: setup, the
 //!   families of request sets, one event, and the player of texts.
@@ -12,8 +12,8 @@
 //! * [`saved`] writes and reads the text of a state, [`state`] is the program
 //!   that saves and goes on, [`strange`] makes states that no run reaches,
 //!   [`state_calls`] are calls of it, and [`state_compare`] compares another.
-//! * [`faults`], [`plan_faults`], [`vote_faults`] and [`state_faults`] plant
-//!   known faults, to see that the comparers find them.
+//! * [`faults`], [`set_faults`], [`plan_faults`], [`vote_faults`] and
+//!   [`state_faults`] plant known faults, to see that the comparers find them.
 
 pub mod calls;
 pub mod census;
@@ -31,6 +31,7 @@ pub mod rigs;
 pub mod saved;
 pub mod saved_damage;
 pub mod schedule;
+pub mod set_faults;
 pub mod shrink;
 pub mod state;
 pub mod state_calls;

@@ -8,7 +8,7 @@ use std::time::{Duration, SystemTime};
 
 use outside::compare::{compare, Plan};
 use outside::measure::{measure, Program};
-use outside::model::{play_by, Version};
+use outside::model::{play_by, Rig, Version};
 use outside::options::Options;
 use outside::plan;
 use outside::plan_compare::compare_calls;
@@ -25,7 +25,7 @@ outside play FILE|- [--earlier]
 outside plan PROGRAM [--script] [--seed S] [--timeout T]
 outside state PROGRAM [--script] [--seed S] [--rounds R] [--jobs J] [--no-spent]
                       [--no-misshapen] [--timeout T] [--folder F]
-outside generate --family grid:3|billiard:7|plane:5|levels:2,3,5|votes:5,1,1,1|full:31|arbiter:31
+outside generate --family grid:3|billiard:7|plane:5|levels:2,3,5|votes:3,2,3,2,3|full:31|arbiter:31
                  --events K [--seed S] [--swell]";
 
 const MEASURE_USAGE: &str = "\
@@ -174,10 +174,15 @@ fn measure_command(mut options: Options) -> Result<bool, String> {
 }
 
 /// Request sets by name: `grid:3`, `billiard:7`, `plane:5`, `levels:2,3,5`,
-/// `votes:5,1,1,1`; also `full:31`, where every set has all sites, and
-/// `arbiter:31`, where every set has site 1 alone.
+/// `votes:3,2,3,2,3`; also `full:31`, where every set has all sites, and
+/// `arbiter:31`, where every set has site 1 alone. They are to be played, so
+/// setup must pass them.
 fn lists(name: &str) -> Result<Lists, String> {
-    named(name).ok_or(format!("{name:?} is no family with a listed parameter"))
+    let lists = named(name).ok_or(format!("{name:?} is no family with a listed parameter"))?;
+    match Rig::from_lists(&lists) {
+        Ok(_) => Ok(lists),
+        Err(refusal) => Err(format!("setup turns {name:?} down with {}", refusal.code())),
+    }
 }
 
 fn named(name: &str) -> Option<Lists> {

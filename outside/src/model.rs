@@ -4,9 +4,9 @@
 //! out the check for one (code 10). A saved text can: [`Rig::apply_judged`] has
 //! the check.
 //!
-//! It is the paper as request 2.3 amends it, with the family of request 2.5. A
-//! rig may be told to go by the
-//! version before instead: see [`Version`].
+//! It is the paper as requests 2.3 and 2.6 amend it, with the family of request
+//! 2.5. A rig may be told to go by the version before request 2.3 instead: see
+//! [`Version`].
 
 pub mod desk;
 pub mod families;
@@ -23,16 +23,20 @@ pub use desk::{Arbiter, Claim, Desk, Mode, Tie};
 pub use families::Family;
 pub use grammar::Event;
 pub use message::{Body, Message};
+pub(crate) use player::play_judged;
 pub use player::{go_on, go_on_with, last_state, last_state_by, play, play_by, play_with, Stop};
 pub use rig::{Change, Rig};
 
-/// By which rules a rig goes. They differ in the fails alone.
+/// By which rules a rig goes. They differ in the fails and in the sets that
+/// setup passes.
 #[derive(Clone, Copy, Debug, PartialEq, Eq)]
 pub enum Version {
-    /// Up to request 2.2: no fail has a number, and each one counts.
+    /// Up to request 2.2: no fail has a number, and each one counts. A set may
+    /// strictly contain another.
     Earlier,
-    /// From request 2.3 on: a fail sent has the number of the ask it is about,
-    /// and counts for that ask alone. One without a number still counts.
+    /// From request 2.6 on: a fail sent has the number of the ask it is about,
+    /// and counts for that ask alone (request 2.3). One without a number still
+    /// counts. No set strictly contains another.
     Present,
 }
 
@@ -83,6 +87,8 @@ pub enum Refusal {
     NoSavedText = 14,
     /// A vote is above 100, or all are 0 (request 2.5).
     Votes = 16,
+    /// A set strictly contains another (request 2.6).
+    NestedSets = 17,
 }
 
 impl Refusal {

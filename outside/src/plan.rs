@@ -172,11 +172,27 @@ mod tests {
     fn the_player_reads_every_plan() {
         for line in [
             "grid 5", "billiard 7", "plane 5", "levels 2 3 5", "levels 1 31 1", "levels 1 1 31", "votes 7",
-            "votes 5 1 1 1", "votes 0 2 0 1 0",
+            "votes 1 1 1 1", "votes 3 2 3 2 3",
         ] {
             let text = printed(line).0 + "ask=1\n";
             let output = String::from_utf8(play(text.as_bytes())).unwrap();
             assert!(output.starts_with("step=1 code=0 inside=0 waiting=1 "), "{line}: {output}");
+        }
+    }
+
+    /// Votes may give sets inside others: `plan` prints them, the player stops.
+    #[test]
+    fn the_player_stops_at_sets_inside_others() {
+        for (line, stop) in [
+            ("votes 3 1 1 1", "stop=17 line=3\n"),
+            ("votes 5 1 1 1", "stop=17 line=3\n"),
+            ("votes 0 2 0 1 0", "stop=17 line=3\n"),
+            ("votes 2 1 1 1", "stop=17 line=5\n"),
+        ] {
+            let (sets, errors, status) = printed(line);
+            assert!(sets.starts_with("sites=") && errors.is_empty() && status == 0, "{line}");
+            let output = String::from_utf8(play((sets + "ask=1\n").as_bytes())).unwrap();
+            assert_eq!(output, stop, "{line}");
         }
     }
 }

@@ -1,8 +1,8 @@
 //! Request sets to play with: the families, and sets and votes made at random.
 
-use crate::model::setup::{members, set_of};
-use crate::model::votes::MOST_VOTES;
-use crate::model::{Family, Site, MOST_SITES};
+use crate::model::setup::{judge_sets, members, set_of};
+use crate::model::votes::{self, MOST_VOTES};
+use crate::model::{Family, Refusal, Site, MOST_SITES};
 use crate::random::Random;
 
 /// The sets of all sites, each ascending, site 1 first.
@@ -15,36 +15,69 @@ pub fn any_family(random: &mut Random) -> Lists {
     family.lists().expect("a family that is made")
 }
 
-/// Random sets of which every two meet.
-pub fn meeting(random: &mut Random) -> Lists {
-    let n = any_size(random);
-    match random.below(WAYS + 1) {
-        WAYS => thinned(random),
-        way => meeting_by(random, n, way),
+/// Random sets that setup passes: every two meet, none is strictly contained in
+/// another.
+pub fn passing(random: &mut Random) -> Lists {
+    match random.below(8) {
+        0 => thinned(random),
+        1 => renumbered(random),
+        _ => {
+            let n = any_size(random);
+            passing_of_size(random, n)
+        }
     }
 }
 
-/// Random sets of `n` sites of which every two meet.
-pub fn meeting_of_size(random: &mut Random, n: usize) -> Lists {
-    let way = random.below(WAYS);
-    meeting_by(random, n, way)
+/// The same for `n` sites.
+pub fn passing_of_size(random: &mut Random, n: usize) -> Lists {
+    match random.below(8) {
+        0 | 1 => {
+            let lists = around_a_centre(random, n);
+            unnested(random, &lists)
+        }
+        2 | 3 => {
+            let lists = small_then_mended(random, n);
+            unnested(random, &lists)
+        }
+        4 => majorities(random, n),
+        5 => equally_large_around_a_centre(random, n),
+        6 => equal_runs(random, n),
+        _ if random.once_in(2) => full(n),
+        _ => all_equal(random, n),
+    }
 }
 
-/// The ways to make meeting sets of any number of sites.
-const WAYS: usize = 5;
-
-fn meeting_by(random: &mut Random, n: usize, way: usize) -> Lists {
-    match way {
+/// Random sets of which every two meet and one is strictly contained in another.
+pub fn nested(random: &mut Random) -> Lists {
+    let n = any_size(random).max(2);
+    let mut lists = match random.below(4) {
         0 => around_a_centre(random, n),
-        1 => majorities(random, n),
-        2 => full(n),
-        3 => all_equal(random, n),
-        _ => small_then_mended(random, n),
+        1 => small_then_mended(random, n),
+        2 => votes::lists(&any_votes(random)).expect("votes of which sets are made"),
+        _ => passing(random),
+    };
+    if lists.len() == 1 {
+        lists = full(2);
     }
+    for _ in 0..random.below(3) {
+        nest(random, &mut lists);
+    }
+    while !is_nested(&lists) {
+        nest(random, &mut lists);
+    }
+    lists
 }
 
 /// Random sets that may well miss each other, none empty, all inside.
 pub fn perhaps_missing(random: &mut Random) -> Lists {
+    if random.once_in(3) {
+        // Sets that pass, with one in place of another that is as large.
+        let mut lists = passing(random);
+        let n = lists.len();
+        let other = random.below(n);
+        lists[other] = so_many_sites(random, n, lists[other].len());
+        return lists;
+    }
     let n = any_size(random);
     let percent = random.between(5, 60);
     let mut lists: Lists = (0..n).map(|_| some_sites(random, n, percent)).collect();
@@ -84,17 +117,36 @@ pub fn one_arbiter(n: usize) -> Lists {
     vec![vec![1]; n]
 }
 
-/// Every set has more than half of the sites.
+/// Every set has just more than half of the sites.
 pub fn majorities(random: &mut Random, n: usize) -> Lists {
-    (0..n)
-        .map(|_| {
-            let mut list = Vec::new();
-            while list.len() <= n / 2 {
-                list = with(list, random.between(1, n) as Site);
-            }
-            list
-        })
-        .collect()
+    (0..n).map(|_| so_many_sites(random, n, n / 2 + 1)).collect()
+}
+
+/// Every set has one common site and as many others.
+fn equally_large_around_a_centre(random: &mut Random, n: usize) -> Lists {
+    let centre = random.between(1, n) as Site;
+    let size = random.between(1, n);
+    let grow = |random: &mut Random| {
+        let mut list = vec![centre];
+        while list.len() < size {
+            list = with(list, random.between(1, n) as Site);
+        }
+        list
+    };
+    (0..n).map(|_| grow(random)).collect()
+}
+
+/// Site n takes as many sites from n on as every other site does, more than
+/// half of them.
+fn equal_runs(random: &mut Random, n: usize) -> Lists {
+    let length = random.between(n / 2 + 1, n);
+    let run = |start: usize| (start..start + length).map(|place| (place % n + 1) as Site);
+    (0..n).map(|start| ascending(run(start).collect())).collect()
+}
+
+fn ascending(mut list: Vec<Site>) -> Vec<Site> {
+    list.sort_unstable();
+    list
 }
 
 fn all_equal(random: &mut Random, n: usize) -> Lists {
@@ -109,22 +161,90 @@ fn small_then_mended(random: &mut Random, n: usize) -> Lists {
     lists
 }
 
-/// A family of which some members are taken out as long as all sets meet.
+/// A family of which some members are taken out or put in as long as setup
+/// passes the sets.
 fn thinned(random: &mut Random) -> Lists {
     let mut lists = any_family(random);
+    let n = lists.len();
     for _ in 0..20 {
-        let place = random.below(lists.len());
-        if lists[place].len() > 1 {
-            let kept = lists[place].clone();
-            let gone = random.below(kept.len());
-            lists[place].remove(gone);
-            let meets_all = lists.iter().all(|other| meet(other, &lists[place]));
-            if !meets_all {
-                lists[place] = kept;
-            }
+        let place = random.below(n);
+        let kept = lists[place].clone();
+        if random.once_in(4) {
+            lists[place] = with(kept.clone(), random.between(1, n) as Site);
+        } else if kept.len() > 1 {
+            lists[place].remove(random.below(kept.len()));
+        }
+        if judged(&lists).is_err() {
+            lists[place] = kept;
         }
     }
     lists
+}
+
+/// The sets of a family given to other sites, the members renumbered.
+fn renumbered(random: &mut Random) -> Lists {
+    let lists = any_family(random);
+    let numbers = shuffled(random, (1..=lists.len() as Site).collect());
+    let renumber = |list: &Vec<Site>| list.iter().map(|&site| numbers[usize::from(site) - 1]).collect();
+    let lists: Lists = lists.iter().map(|list| ascending(renumber(list))).collect();
+    shuffled(random, lists)
+}
+
+fn shuffled<T>(random: &mut Random, mut things: Vec<T>) -> Vec<T> {
+    for place in 1..things.len() {
+        things.swap(place, random.between(0, place));
+    }
+    things
+}
+
+/// In place of each set the smallest of the sets that it contains, or the
+/// largest that contains it. Then none is strictly contained in another.
+fn unnested(random: &mut Random, lists: &Lists) -> Lists {
+    let contains = |outer: &Vec<Site>, inner: &Vec<Site>| set_of(inner) & !set_of(outer) == 0;
+    let smaller = random.once_in(3);
+    let other = |list: &Vec<Site>| {
+        let found = if smaller {
+            lists.iter().filter(|other| contains(list, other)).min_by_key(|other| other.len())
+        } else {
+            lists.iter().filter(|other| contains(other, list)).max_by_key(|other| other.len())
+        };
+        found.expect("at least the set itself").clone()
+    };
+    lists.iter().map(other).collect()
+}
+
+/// Puts in place of a set another one with members more or fewer, as long as
+/// every two sets meet.
+fn nest(random: &mut Random, lists: &mut Lists) {
+    let n = lists.len();
+    let (place, other) = (random.below(n), random.below(n));
+    let kept = lists[place].clone();
+    let mut list = lists[other].clone();
+    for _ in 0..random.pick(&[1, 1, 2, 5]) {
+        if list.len() == n || (list.len() > 1 && random.once_in(2)) {
+            list.remove(random.below(list.len()));
+        } else {
+            list = with(list, random.between(1, n) as Site);
+        }
+    }
+    if list.is_empty() {
+        return;
+    }
+    lists[place] = list;
+    if judged(lists).is_err_and(|refusal| refusal != Refusal::NestedSets) {
+        lists[place] = kept;
+    }
+}
+
+/// What setup says of the sets of 1 to 31 sites.
+fn judged(lists: &Lists) -> Result<(), Refusal> {
+    let sets: Vec<u64> = lists.iter().map(|list| set_of(list)).collect();
+    judge_sets(&sets).map_err(|(refusal, _)| refusal)
+}
+
+/// Whether setup says 17.
+pub fn is_nested(lists: &Lists) -> bool {
+    judged(lists) == Err(Refusal::NestedSets)
 }
 
 /// Adds members until every two sets meet.
@@ -148,6 +268,15 @@ fn with(list: Vec<Site>, site: Site) -> Vec<Site> {
     members(set_of(&list) | set_of(&[site]))
 }
 
+/// So many of the sites 1 to `n`.
+fn so_many_sites(random: &mut Random, n: usize, count: usize) -> Vec<Site> {
+    let mut list = Vec::new();
+    while list.len() < count {
+        list = with(list, random.between(1, n) as Site);
+    }
+    list
+}
+
 /// Some of the sites 1 to `n`, at least one.
 fn some_sites(random: &mut Random, n: usize, percent: usize) -> Vec<Site> {
     let list: Vec<Site> = (1..=n as Site).filter(|_| random.percent(percent)).collect();
@@ -155,6 +284,16 @@ fn some_sites(random: &mut Random, n: usize, percent: usize) -> Vec<Site> {
         vec![random.between(1, n) as Site]
     } else {
         list
+    }
+}
+
+/// Votes whose family setup passes.
+pub fn passing_votes(random: &mut Random) -> Vec<u64> {
+    loop {
+        let votes = any_votes(random);
+        if judged(&votes::lists(&votes).expect("votes of which sets are made")).is_ok() {
+            return votes;
+        }
     }
 }
 
@@ -221,8 +360,11 @@ pub fn set_line(list: &[Site]) -> String {
 
 #[cfg(test)]
 mod tests {
+    use std::collections::BTreeSet;
+
     use super::*;
-    use crate::model::{votes, Refusal, Rig};
+    use crate::model::setup::is_inside;
+    use crate::model::{Rig, Version};
 
     #[test]
     fn every_family_is_chosen() {
@@ -235,16 +377,73 @@ mod tests {
         assert_eq!(left, Vec::<Lists>::new());
     }
 
+    /// Whether all sets are equal, and whether any two are.
+    fn equals(lists: &Lists) -> (bool, bool) {
+        let mut sorted = lists.clone();
+        sorted.sort();
+        sorted.dedup();
+        (sorted.len() == 1, sorted.len() < lists.len())
+    }
+
     #[test]
-    fn meeting_sets_pass_setup() {
+    fn passing_sets_pass_setup() {
         let mut random = Random::new(1);
         let mut sizes = [0; 32];
-        for _ in 0..2000 {
-            let lists = meeting(&mut random);
+        let (mut all_equal, mut some_equal, mut none_equal) = (0, 0, 0);
+        let mut unlike = 0;
+        for _ in 0..2_000 {
+            let lists = passing(&mut random);
             sizes[lists.len()] += 1;
             assert!(Rig::from_lists(&lists).is_ok(), "{lists:?}");
+            match equals(&lists) {
+                (true, _) => all_equal += 1,
+                (false, true) => some_equal += 1,
+                (false, false) => none_equal += 1,
+            }
+            unlike += usize::from(lists.iter().any(|list| list.len() != lists[0].len()));
         }
         assert!(sizes[1..].iter().all(|&count| count > 0));
+        let counts = [all_equal, some_equal, none_equal, unlike];
+        assert!(counts.iter().all(|&count| count > 200), "{counts:?}");
+    }
+
+    /// Every family of three sites that setup passes comes up.
+    #[test]
+    fn passing_sets_of_three_sites() {
+        let mut random = Random::new(5);
+        let found: BTreeSet<Lists> = (0..5_000).map(|_| passing_of_size(&mut random, 3)).collect();
+        assert_eq!(found.len(), 31, "{found:?}");
+        assert!(found.iter().all(|lists| Rig::from_lists(lists).is_ok()));
+    }
+
+    /// Of the pairs there are several and one alone, neighbours and others, a
+    /// set inside an earlier one and around it, and equal sets beside them.
+    #[test]
+    fn nested_sets_of_every_kind_come_up() {
+        let mut random = Random::new(6);
+        let mut sizes = [0; 32];
+        let (mut one, mut several, mut apart, mut inside, mut around, mut equal) = (0, 0, 0, 0, 0, 0);
+        for _ in 0..2_000 {
+            let lists = nested(&mut random);
+            sizes[lists.len()] += 1;
+            assert_eq!(Rig::from_lists(&lists), Err(Refusal::NestedSets), "{lists:?}");
+            assert!(Rig::from_lists_by(Version::Earlier, &lists).is_ok(), "{lists:?}");
+            let sets: Vec<u64> = lists.iter().map(|list| set_of(list)).collect();
+            let pairs: Vec<(usize, usize, bool)> = (0..sets.len())
+                .flat_map(|late| (0..late).map(move |early| (early, late)))
+                .filter(|&(a, b)| is_inside(sets[a], sets[b]) || is_inside(sets[b], sets[a]))
+                .map(|(a, b)| (a, b, is_inside(sets[b], sets[a])))
+                .collect();
+            one += usize::from(pairs.len() == 1);
+            several += usize::from(pairs.len() > 1);
+            apart += usize::from(pairs.iter().all(|(early, late, _)| early + 1 < *late));
+            inside += usize::from(pairs.iter().all(|(_, _, inside)| *inside));
+            around += usize::from(pairs.iter().all(|(_, _, inside)| !*inside));
+            equal += usize::from(equals(&lists).1);
+        }
+        assert!(sizes[2..].iter().all(|&count| count > 0));
+        let counts = [one, several, apart, inside, around, equal];
+        assert!(counts.iter().all(|&count| count > 200), "{counts:?}");
     }
 
     #[test]
@@ -270,16 +469,18 @@ mod tests {
     #[test]
     fn others_often_miss() {
         let mut random = Random::new(2);
-        let mut missed = 0;
+        let (mut passed, mut missed, mut nested) = (0, 0, 0);
         for _ in 0..1000 {
             match Rig::from_lists(&perhaps_missing(&mut random)) {
-                Ok(_) => {}
+                Ok(_) => passed += 1,
+                Err(Refusal::NestedSets) => nested += 1,
                 Err(refusal) => {
                     assert_eq!(refusal, Refusal::SetsMiss);
                     missed += 1;
                 }
             }
         }
-        assert!((300..900).contains(&missed), "{missed}");
+        let counts = [passed, missed, nested];
+        assert!((300..900).contains(&missed) && counts.iter().all(|&count| count > 30), "{counts:?}");
     }
 }

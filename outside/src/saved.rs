@@ -1,4 +1,4 @@
-//! The saved text of a state, written and read (requests 2.2 and 2.3,
+//! The saved text of a state, written and read (requests 2.2, 2.3 and 2.6,
 //! docs/TEXT.md).
 
 use std::fmt::Write;
@@ -75,7 +75,8 @@ pub fn read_text(text: &[u8]) -> Option<Rig> {
     read_text_by(Version::Present, text)
 }
 
-/// The same in a version. That of request 2.2 knows no numbered fail.
+/// The same in a version. That of request 2.2 knows no numbered fail, and its
+/// sets may be strictly contained in others.
 pub fn read_text_by(version: Version, text: &[u8]) -> Option<Rig> {
     read_form(text).map(|rig| rig.by(version)).filter(|rig| !rig.is_misshapen())
 }
@@ -259,7 +260,7 @@ pub(crate) mod tests {
         let mut fails = 0;
         for seed in 0..200 {
             let mut random = Random::new(seed);
-            let lists = rigs::meeting(&mut random);
+            let lists = rigs::passing(&mut random);
             let events = random.below(300);
             let text = schedule::text(&lists, Schedule::new(random), events);
             let rig = last_state_by(Version::Earlier, &text).unwrap();
@@ -277,7 +278,7 @@ pub(crate) mod tests {
             let mut random = Random::new(seed);
             let lists = match seed % 2 {
                 0 => rigs::any_family(&mut random),
-                _ => rigs::meeting(&mut random),
+                _ => rigs::passing(&mut random),
             };
             let events = random.below(1_500);
             let text = schedule::text(&lists, Schedule::new(random), events);
@@ -292,7 +293,7 @@ pub(crate) mod tests {
     fn states_that_no_run_reaches_are_read_back() {
         let mut random = Random::new(6);
         for _ in 0..3_000 {
-            let lists = rigs::meeting(&mut random);
+            let lists = rigs::passing(&mut random);
             round_trip(&strange::any_state(&mut random, &lists));
         }
     }
@@ -315,7 +316,7 @@ pub(crate) mod tests {
         let mut random = Random::new(8);
         let (mut read, mut refused) = (0, 0);
         for round in 0..2_000 {
-            let lists = rigs::meeting(&mut random);
+            let lists = rigs::passing(&mut random);
             let rig = strange::any_state(&mut random, &lists);
             let mut text = text_of(&rig).into_bytes();
             for _ in 0..random.between(1, 3) {
@@ -331,6 +332,29 @@ pub(crate) mod tests {
             }
         }
         assert!(read > 100 && refused > 100, "{read} read, {refused} refused");
+    }
+
+    /// "A saved text with such sets is rejected too", also one of the version
+    /// before, which reads it itself.
+    #[test]
+    fn texts_of_sets_inside_others() {
+        let mut random = Random::new(9);
+        let mut unnumbered = 0;
+        for _ in 0..1_000 {
+            let lists = rigs::nested(&mut random);
+            for rig in [Rig::fresh(&lists), strange::any_state(&mut random, &lists)] {
+                let text = text_of(&rig);
+                let form = read_form(text.as_bytes());
+                assert_eq!(form.as_ref(), Some(&rig));
+                assert_eq!(read_text(text.as_bytes()), None);
+                let earlier = read_text_by(Version::Earlier, text.as_bytes());
+                if let Some(earlier) = earlier {
+                    assert_eq!(earlier.by(Version::Present), rig);
+                    unnumbered += 1;
+                }
+            }
+        }
+        assert!(unnumbered > 1_000, "{unnumbered}");
     }
 
     #[test]

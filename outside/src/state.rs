@@ -1,5 +1,5 @@
-//! The program `state` of request 2.2, as request 2.3 leaves it: saves a run
-//! and goes on with a saved one.
+//! The program `state` of request 2.2, as requests 2.3 and 2.6 leave it: saves
+//! a run and goes on with a saved one.
 
 use std::fmt::Display;
 
@@ -209,6 +209,7 @@ mod tests {
     fn stops_stand_alone() {
         let stop = |line: &str| Answer::Stop(format!("{line}\n"));
         assert_eq!(call(&[plain("save")], "sites=2\nset=1\nset=2\n"), stop("stop=3 line=3"));
+        assert_eq!(call(&[plain("save")], "sites=2\nset=1\nset=1,2\nask"), stop("stop=17 line=3"));
         assert_eq!(call(&[plain("save")], "sites=1\nset=1\nask=1\nask"), stop("stop=11 line=4"));
         assert_eq!(call(&[plain("save")], ""), stop("stop=11 line=1"));
         let from = |input: &str| call(&[plain("save"), file(EXAMPLE_SAVED)], input);
@@ -217,6 +218,34 @@ mod tests {
         for word in ["save", "play"] {
             assert_eq!(call(&[plain(word), file("")], "ask=1\n"), stop("stop=14"));
             assert_eq!(call(&[plain(word), file("")], "rubbish"), stop("stop=14"));
+        }
+    }
+
+    #[test]
+    fn a_saved_text_with_sets_inside_others_is_turned_down() {
+        let saved = |sets: [&str; 2]| {
+            let [held, other] = sets.map(|set| if set.contains(',') { "0,0" } else { "0" });
+            let queued = if held == "0,0" || other == "0,0" { "0" } else { "" };
+            format!(
+                "sites=2\nset={}\nset={}\naccepted=0\n\
+                 clock=0\nmode=0\nheld={held}\nheir={held}\ninquired={held}\n\
+                 clock=0\nmode=0\nheld={other}\nheir={other}\ninquired={other}\n\
+                 grant=0\nholder=0\nqueued=0,0\ngrant=0\nholder=0\nqueued={queued}\n",
+                sets[0], sets[1]
+            )
+        };
+        for (sets, read) in [(["1", "1"], true), (["1", "1,2"], false), (["1,2", "1"], false)] {
+            let text = saved(sets);
+            let stop = Answer::Stop("stop=14\n".to_string());
+            let expected = if read { Answer::Text(text.clone()) } else { stop.clone() };
+            assert_eq!(call(&[plain("save"), file(&text)], ""), expected, "{sets:?}");
+            let line = Answer::Lines("step=1 code=7 inside=0 waiting=0 flying=0\n".to_string());
+            let expected = if read { line } else { stop };
+            assert_eq!(call(&[plain("play"), file(&text)], "move=1,1\n"), expected, "{sets:?}");
+            // The version before reads all of them.
+            let words = vec![plain("save"), file(&text)];
+            let earlier = answer_by(Version::Earlier, &Call { words, input: Vec::new() });
+            assert_eq!(earlier, Answer::Text(text));
         }
     }
 

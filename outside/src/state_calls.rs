@@ -2,7 +2,7 @@
 
 use std::collections::HashSet;
 
-use crate::model::{last_state, play, Event, Family, Rig, Version, MOST_SITES};
+use crate::model::{last_state, play, votes, Event, Family, Rig, Version, MOST_SITES};
 use crate::random::Random;
 use crate::rigs::{self, Lists};
 use crate::saved::{read_text, text_of};
@@ -43,23 +43,41 @@ fn play_on(kind: &'static str, saved: &[u8], events: &[u8]) -> Trial {
 }
 
 /// Sets made by hand: sites outside their own set, arbiters that no site has,
-/// sets inside others.
+/// equal sets, small and large ones.
 fn odd_lists() -> Vec<Lists> {
     vec![
         vec![vec![1]],
         vec![vec![1], vec![1]],
         vec![vec![2], vec![2]],
-        vec![vec![2], vec![1, 2]],
+        vec![vec![1, 2], vec![1, 2]],
         vec![vec![2, 3], vec![1, 3], vec![1, 2]],
         vec![vec![1, 2], vec![2, 3], vec![1, 3]],
         vec![vec![3], vec![3], vec![3]],
-        vec![vec![1, 2, 3], vec![2], vec![2, 3]],
-        vec![vec![4], vec![3, 4], vec![2, 4], vec![1, 4]],
-        vec![vec![1, 2, 3], vec![3, 4, 5], vec![1, 4], vec![2, 3, 4], vec![1, 4, 5]],
+        vec![vec![1, 2], vec![2, 3], vec![2, 3]],
+        vec![vec![3, 4], vec![3, 4], vec![2, 4], vec![1, 4]],
+        vec![vec![2, 3, 4], vec![1, 2], vec![1, 3], vec![1, 4]],
+        vec![vec![1, 2, 3], vec![3, 4, 5], vec![1, 3, 4], vec![2, 3, 4], vec![1, 2, 4]],
         vec![vec![31]; MOST_SITES],
         vec![vec![1, 31]; MOST_SITES],
-        (1..=MOST_SITES as u16).map(|site| if site < 31 { vec![site, 31] } else { vec![31] }).collect(),
+        (1..=MOST_SITES as u16).map(|site| vec![site.min(30), 31]).collect(),
         (1..=10).map(|site| if site == 10 { (1..=9).collect() } else { vec![site, 10] }).collect(),
+    ]
+}
+
+/// Sets made by hand of which every two meet and one is strictly contained in
+/// another.
+fn nested_lists() -> Vec<Lists> {
+    vec![
+        vec![vec![2], vec![1, 2]],
+        vec![vec![1, 2], vec![2]],
+        vec![vec![1, 2, 3], vec![2], vec![2, 3]],
+        vec![vec![1, 2], vec![1, 2], vec![1, 2, 3]],
+        vec![vec![1, 2], vec![1, 3], vec![1, 3], vec![1, 2, 4]],
+        vec![vec![4], vec![3, 4], vec![2, 4], vec![1, 4]],
+        vec![vec![1, 2, 3], vec![3, 4, 5], vec![1, 4], vec![2, 3, 4], vec![1, 4, 5]],
+        (1..=MOST_SITES as u16).map(|site| if site < 31 { vec![site, 31] } else { vec![31] }).collect(),
+        (1..=MOST_SITES as u16).map(|site| (1..=if site == 31 { 30 } else { 31 }).collect()).collect(),
+        votes::lists(&[3, 1, 1, 1]).expect("votes of which sets are made"),
     ]
 }
 
@@ -69,6 +87,7 @@ pub fn fixed() -> Vec<Trial> {
     old_fail(&mut all);
     all.extend(texts::fixed().iter().map(|text| save("fixed text", &text.bytes)));
     fresh_states(&mut all);
+    fresh_nested_states(&mut all);
     wrong_words(&mut all);
     let (first, rest) = example();
     let saved = text_of(&last_state(&first).expect("a good text")).into_bytes();
@@ -98,6 +117,25 @@ fn fresh_states(all: &mut Vec<Trial>) {
         all.push(save("fresh", rigs::head(&lists).as_bytes()));
         all.push(play_on("fresh", saved.as_bytes(), b"ask=1\nmove=1,1\n"));
     }
+}
+
+/// A fresh state on sets of which one is strictly contained in another: "A
+/// saved text with such sets is rejected too".
+fn fresh_nested_states(all: &mut Vec<Trial>) {
+    for lists in nested_lists() {
+        let saved = text_of(&Rig::fresh(&lists));
+        all.push(save("fresh nested", rigs::head(&lists).as_bytes()));
+        for events in ["", "ask=1\nmove=1,1\n", "no event\n"] {
+            all.extend(turned_down("fresh nested", saved.as_bytes(), events.as_bytes()));
+        }
+    }
+}
+
+/// Calls with a file that is to be turned down with 14.
+fn turned_down(kind: &'static str, saved: &[u8], events: &[u8]) -> [Trial; 2] {
+    let stop = || Answer::Stop("stop=14\n".to_string());
+    [play_on(kind, saved, events), save_on(kind, saved, events)]
+        .map(|trial| Trial { answer: stop(), ..trial })
 }
 
 fn wrong_words(all: &mut Vec<Trial>) {
@@ -291,7 +329,7 @@ pub fn spent() -> Vec<Trial> {
 }
 
 /// So many kinds of rounds there are.
-const ROUNDS: u64 = 9;
+const ROUNDS: u64 = 10;
 
 /// The calls of one random round.
 pub fn round(seed: u64, place: u64) -> Vec<Trial> {
@@ -301,6 +339,7 @@ pub fn round(seed: u64, place: u64) -> Vec<Trial> {
         3 | 4 => cut_run(&mut random, place),
         5 | 6 => unreached(&mut random, place),
         7 => earlier(&mut random, place),
+        8 => nested(&mut random),
         _ => other_texts(&mut random),
     }
 }
@@ -313,8 +352,8 @@ fn some_lists(random: &mut Random, place: u64) -> Lists {
             let odd = odd_lists();
             odd[random.below(odd.len())].clone()
         }
-        2 => rigs::meeting_of_size(random, (place / ROUNDS) as usize % MOST_SITES + 1),
-        _ => rigs::meeting(random),
+        2 => rigs::passing_of_size(random, (place / ROUNDS) as usize % MOST_SITES + 1),
+        _ => rigs::passing(random),
     }
 }
 
@@ -436,7 +475,7 @@ fn counted(place: usize, line: &str) -> String {
 }
 
 /// A state that no run reaches, saved and gone on with; then that text
-/// damaged. The last one is misshapen: its sets may miss each other.
+/// damaged. The last one may be misshapen: its sets may miss each other.
 fn unreached(random: &mut Random, place: u64) -> Vec<Trial> {
     let lists = some_lists(random, place);
     let rig = strange::any_state(random, &lists);
@@ -459,7 +498,7 @@ fn unreached(random: &mut Random, place: u64) -> Vec<Trial> {
 fn earlier(random: &mut Random, place: u64) -> Vec<Trial> {
     let (lists, mut schedule) = if random.once_in(2) {
         let n = random.between(2, 5);
-        (rigs::meeting_of_size(random, n), Schedule::slow_fails(Random::new(random.bits())))
+        (rigs::passing_of_size(random, n), Schedule::slow_fails(Random::new(random.bits())))
     } else {
         (some_lists(random, place), Schedule::new(Random::new(random.bits())))
     };
@@ -481,6 +520,31 @@ fn earlier(random: &mut Random, place: u64) -> Vec<Trial> {
     all
 }
 
+/// States on sets of which one is strictly contained in another: one that a run
+/// of the version before request 2.3 reaches, one with the fails of this version,
+/// one that no run reaches. No text of theirs is read, and the text of the run
+/// stops.
+fn nested(random: &mut Random) -> Vec<Trial> {
+    let lists = rigs::nested(random);
+    let mut schedule = Schedule::new(Random::new(random.bits()));
+    let mut events = String::new();
+    let mut both = [Version::Earlier, Version::Present].map(|version| Rig::fresh(&lists).by(version));
+    for _ in 0..count(random) {
+        let event = schedule.next_event(&both[0]);
+        for rig in &mut both {
+            let _ = rig.apply(event);
+        }
+        events += &format!("{event}\n");
+    }
+    let mut all = vec![save("nested", (rigs::head(&lists) + &events).as_bytes())];
+    let strange = strange::any_state(random, &lists);
+    for rig in both.iter().chain([&strange]) {
+        let events = events_for(random, &rig.clone().by(Version::Earlier), 20);
+        all.extend(turned_down("nested", text_of(rig).as_bytes(), &events));
+    }
+    all
+}
+
 /// Texts that stop or do not, of every kind the comparison of players has.
 fn other_texts(random: &mut Random) -> Vec<Trial> {
     (0..8).map(|_| save("any text", &texts::random(random).bytes)).collect()
@@ -498,6 +562,22 @@ mod tests {
         for place in 0..300 {
             for trial in cut_run(&mut Random::for_place(2, place), place) {
                 assert_eq!(answer(&trial.call), trial.answer, "place {place}");
+            }
+        }
+    }
+
+    /// The reading turns down what is saved of sets inside others, and its
+    /// player stops.
+    #[test]
+    fn nested_sets_are_read_alike() {
+        let mut trials: Vec<Trial> = (0..300).flat_map(|place| nested(&mut Random::new(place))).collect();
+        fresh_nested_states(&mut trials);
+        for trial in trials {
+            assert_eq!(answer(&trial.call), trial.answer);
+            let Answer::Stop(line) = &trial.answer else { panic!("{:?}", trial.answer) };
+            match trial.call.words.len() {
+                1 => assert!(line.starts_with("stop=17 line="), "{line}"),
+                _ => assert_eq!(line, "stop=14\n"),
             }
         }
     }
@@ -543,6 +623,8 @@ mod tests {
             let (read, refused) = damaged[kind];
             assert!(read > 10 && refused > 10, "{kind}: {read} read, {refused} refused");
         }
+        // The text of each run stops with 17; what is saved is turned down.
+        assert_eq!(damaged["nested"], (100, 600));
         assert!(sizes[1..].iter().all(|&count| count > 0), "{sizes:?}");
         for code in [0, 4, 5, 6, 7, 8, 9, 10] {
             assert!(codes[code] > 0, "{codes:?}");

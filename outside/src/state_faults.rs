@@ -2,19 +2,21 @@
 //! them.
 
 use crate::faults::delivered;
+use crate::model::setup::{judge_meeting_sets, judge_sets, Judgement};
 use crate::model::{
-    go_on, go_on_with, last_state, Body, Event, Message, Mode, Refusal, Rig, Version, LARGEST_NUMBER,
-    LONGEST_LINE, MOST_SITES, MOST_UNDER_WAY,
+    go_on, go_on_with, last_state, play_judged, Body, Event, Message, Mode, Refusal, Rig, Version,
+    LARGEST_NUMBER, LONGEST_LINE, MOST_SITES, MOST_UNDER_WAY,
 };
 use crate::plan::Printed;
 use crate::saved::{read_form, read_text, text_of};
+use crate::set_faults;
 use crate::state::{answer, answer_by, how, no_saved_text, play_on, save_on, Answer, Call, How, Word};
 
 /// Answers a call.
 pub type Keeper = fn(&Call) -> Printed;
 
 /// The planted faults, by the name under which they are asked for.
-pub const FAULTS: [(&str, Keeper); 43] = [
+pub const FAULTS: [(&str, Keeper); 49] = [
     // A text is read that no state gives.
     ("zeros-may-lead", |call| with_saved(call, |text| each_number(text, without_zeros))),
     ("numbers-have-32-bits", |call| with_saved(call, |text| each_number(text, |digits| wrapped(digits, 32)))),
@@ -34,7 +36,10 @@ pub const FAULTS: [(&str, Keeper); 43] = [
     ("clock-has-no-limit", |call| with_saved(call, |text| each_line(text, limited_clock))),
     ("one-message-more-is-read", |call| with_saved(call, without_message_1025)),
     ("shape-is-not-tested", |call| with_reader(call, read_form)),
-    ("sets-may-miss", |call| with_reader(call, |text| read_form(text).filter(Rig::all_but_sets_pass))),
+    ("sets-may-miss", |call| with_judge(call, may_miss)),
+    ("nested-sets-are-read", |call| with_judge(call, judge_meeting_sets)),
+    ("a-set-around-an-earlier-one-is-read", |call| with_judge(call, set_faults::inside_an_earlier)),
+    ("a-set-inside-an-earlier-one-is-read", |call| with_judge(call, set_faults::around_an_earlier)),
     ("heir-may-lack-the-arbiter", |call| with_reader(call, |text| without_heirs(read_form(text)?))),
     ("ties-of-messages-are-not-tested", |call| with_reader(call, |text| without_messages(read_form(text)?))),
     // A text is turned down that a state gives.
@@ -49,6 +54,7 @@ pub const FAULTS: [(&str, Keeper); 43] = [
     ("one-inside-at-most", |call| with_reader(call, |text| read_text(text).filter(one_inside))),
     ("holder-needs-a-grant", |call| with_reader(call, |text| read_text(text).filter(holders_have_grants))),
     ("fail-needs-a-number", |call| with_reader(call, |text| read_text(text).filter(fails_are_numbered))),
+    ("equal-sets-are-not-read", |call| with_reader(call, |text| read_text(text).filter(sets_are_unlike))),
     // Another state is read or written.
     ("accepted-is-not-kept", |call| {
         with_read(call, |text| each_line(text, |line| key_or(line, "accepted", "accepted=0\n")))
@@ -75,6 +81,8 @@ pub const FAULTS: [(&str, Keeper); 43] = [
     ("a-stop-prints-the-text-too", stop_prints_text),
     ("a-late-stop-prints-the-text", late_stop_prints_text),
     ("stop-14-says-a-line", |call| changed(call, "stop=14\n", "stop=14 line=1\n")),
+    ("nested-sets-are-saved", nested_sets_are_saved),
+    ("nested-sets-give-17-for-14", nested_sets_give_17),
     ("usage-to-standard-output", |call| {
         let Printed { output, errors, status } = answer(call).printed();
         Printed { output: output + &errors, errors: String::new(), status }
@@ -118,6 +126,46 @@ fn with_reader(call: &Call, read: impl Fn(&[u8]) -> Option<Rig>) -> Printed {
         _ => answer(call),
     }
     .printed()
+}
+
+/// Another judgement of the sets of a saved text.
+fn with_judge(call: &Call, judge: fn(&[u64]) -> Judgement) -> Printed {
+    let passes = |rig: &Rig| rig.sets_pass_by(judge) && rig.all_but_sets_pass();
+    with_reader(call, |text| read_form(text).filter(passes))
+}
+
+fn may_miss(sets: &[u64]) -> Judgement {
+    match judge_sets(sets) {
+        Err((Refusal::SetsMiss, _)) => Ok(()),
+        judgement => judgement,
+    }
+}
+
+/// A text of events on sets inside others is played and saved.
+fn nested_sets_are_saved(call: &Call) -> Printed {
+    match how(call) {
+        How::Save(None) => match play_judged(&call.input, judge_meeting_sets) {
+            (_, Some(rig)) => Answer::Text(text_of(&rig)),
+            (_, None) => answer(call),
+        },
+        _ => answer(call),
+    }
+    .printed()
+}
+
+fn nested_sets_give_17(call: &Call) -> Printed {
+    match how(call) {
+        How::Play(saved) | How::Save(Some(saved)) if is_nested(saved) => {
+            Answer::Stop("stop=17\n".to_string()).printed()
+        }
+        _ => answer(call).printed(),
+    }
+}
+
+/// Whether a text is well shaped but for sets inside others.
+fn is_nested(text: &[u8]) -> bool {
+    let is_nested = |rig: &Rig| rig.sets_pass_by(judge_meeting_sets) && !rig.sets_pass_by(judge_sets);
+    read_form(text).is_some_and(|rig| is_nested(&rig) && rig.all_but_sets_pass())
 }
 
 /// What is written changed.
@@ -281,6 +329,10 @@ fn heirs_are_held(rig: &Rig) -> bool {
 
 fn fails_are_numbered(rig: &Rig) -> bool {
     rig.under_way().iter().all(|message| message.body != Body::Fail { seq: None })
+}
+
+fn sets_are_unlike(rig: &Rig) -> bool {
+    rig.sites().all(|site| (1..site).all(|other| rig.members(other) != rig.members(site)))
 }
 
 fn one_inside(rig: &Rig) -> bool {

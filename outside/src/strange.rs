@@ -6,7 +6,7 @@ use crate::model::{
 use crate::random::Random;
 use crate::rigs::{self, Lists};
 
-/// A random well-shaped state on sets that setup passes.
+/// A random state on these sets. It is well shaped if setup passes them.
 pub fn any_state(random: &mut Random, lists: &Lists) -> Rig {
     let base = random.pick(&[0, 0, 0, 7, 95, LARGEST_NUMBER - 4]);
     let bare = random.once_in(8);
@@ -181,7 +181,7 @@ mod tests {
     fn all_are_well_shaped() {
         let mut random = Random::new(4);
         for _ in 0..3_000 {
-            let lists = rigs::meeting(&mut random);
+            let lists = rigs::passing(&mut random);
             assert!(!any_state(&mut random, &lists).is_misshapen());
         }
         assert!(!longest().is_misshapen());
@@ -194,7 +194,7 @@ mod tests {
         let mut random = Random::new(5);
         let mut misshapen = 0;
         for _ in 0..1_000 {
-            let lists = rigs::meeting(&mut random);
+            let lists = rigs::passing(&mut random);
             let mut rig = any_state(&mut random, &lists);
             let mut schedule = Schedule::new(Random::new(random.bits()));
             for _ in 0..100 {

@@ -3,7 +3,8 @@
 use std::collections::BTreeSet;
 
 use crate::damage::{damage, long_set_line};
-use crate::model::{Family, Site, MOST_ACCEPTED};
+use crate::model::setup::{members, set_of};
+use crate::model::{votes, Family, Site, MOST_ACCEPTED, MOST_SITES};
 use crate::random::Random;
 use crate::rigs::{self, Lists};
 use crate::schedule::{self, Schedule};
@@ -32,9 +33,13 @@ pub fn fixed() -> Vec<Text> {
     }
     put(OLD_INQUIRE.as_bytes());
     put(OLD_FAIL.as_bytes());
+    put(OLD_FAIL_OF_UNLIKE_SETS.as_bytes());
     put(OLD_FAIL_OF_TWO.as_bytes());
     for (_, text) in NUMBERED_FAILS {
         put(text.as_bytes());
+    }
+    for text in sets_inside_others() {
+        put(&text);
     }
     // The first line.
     for number in [
@@ -118,6 +123,107 @@ pub fn fixed() -> Vec<Text> {
     all.into_iter().map(|bytes| Text { kind: "fixed", bytes }).collect()
 }
 
+/// Sets of which one may be strictly contained in another (request 2.6): every
+/// two sets of two sites, every three of three, and some of more.
+fn sets_inside_others() -> Vec<Vec<u8>> {
+    let mut all = Vec::new();
+    let mut put = |lists: &[Vec<Site>], tail: &str| all.push((rigs::head(lists) + tail).into_bytes());
+    let sets = |n: u64| (1..1 << n).map(members).collect::<Lists>();
+    for one in sets(2) {
+        for other in sets(2) {
+            put(&[one.clone(), other], "ask=1\nask=2\n");
+        }
+    }
+    for one in sets(3) {
+        for other in sets(3) {
+            sets(3).into_iter().for_each(|third| put(&[one.clone(), other.clone(), third], "ask=3\n"));
+        }
+    }
+    // All sets are equal but one, which is smaller or larger.
+    for place in [0, 1, 2, 15, 29, 30] {
+        for (many, one) in [(1..=31, 1..=30), (1..=31, 31..=31), (1..=30, 1..=31), (2..=31, 1..=31)] {
+            let mut lists: Lists = vec![many.collect(); MOST_SITES];
+            lists[place] = one.collect();
+            put(&lists, "ask=31\n");
+        }
+    }
+    // A set of the plane, for another site too: with a member more, with one
+    // fewer, which misses others, and as it is.
+    let plane = Family::Plane(5).lists().expect("a family that is made");
+    for (one, other) in [(0, 30), (30, 0), (0, 1), (29, 30), (7, 20)] {
+        let mut lists = plane.clone();
+        lists[other] = members(set_of(&plane[one]) | set_of(&plane[other][..1]));
+        put(&lists, "ask=1\n");
+        lists[other] = plane[one][1..].to_vec();
+        put(&lists, "ask=1\n");
+        lists[other] = plane[one].clone();
+        put(&lists, "ask=1\n");
+    }
+    for votes in [
+        &[3, 1, 1, 1][..],
+        &[5, 1, 1, 1],
+        &[1, 1, 1, 1],
+        &[2, 1, 2, 1],
+        &[3, 2, 3, 2, 3],
+        &[0, 2, 0, 1, 0],
+        &[0, 0, 1],
+        &[1, 3, 1],
+        &[100; 31],
+        &[1; 31],
+    ] {
+        put(&votes::lists(votes).expect("votes of which sets are made"), "ask=1\n");
+    }
+    for sets in NESTED {
+        let lines: String = sets.iter().map(|list| format!("set={list}\n")).collect();
+        for tail in ["", "ask=1\n", "ask=1", "no event\n", "set=1\n"] {
+            all.push(format!("sites={}\n{lines}{tail}", sets.len()).into_bytes());
+        }
+        // A set is lacking.
+        all.push(format!("sites={}\n{lines}", sets.len() + 1).into_bytes());
+    }
+    all
+}
+
+/// Sets of four sites or more, or malformed ones.
+const NESTED: [&[&str]; 28] = [
+    // One pair, no neighbours.
+    &["1,2", "1,3", "1,2,4", "1,3"],
+    &["1,2,4", "1,3", "1,2", "1,3"],
+    &["1,2", "1,3", "1,3", "1,2,4"],
+    &["1,2,4", "1,3", "1,3", "1,2"],
+    // Two pairs: 1 and 4, 2 and 3.
+    &["1,2", "1,3", "1,3,4", "1,2,4"],
+    &["1,2,4", "1,3,4", "1,3", "1,2"],
+    &["1,2", "1,3,4", "1,3", "1,2,4"],
+    &["1,2,4", "1,3", "1,3,4", "1,2"],
+    // Two pairs: 1 and 3, 2 and 4.
+    &["1,2", "1,3", "1,2,4", "1,3,4"],
+    &["1,2,4", "1,3,4", "1,2", "1,3"],
+    // A chain; a set around all others; one inside all others.
+    &["1", "1,2", "1,2,3", "1,2,3,4"],
+    &["1,2,3,4", "1,2,3", "1,2", "1"],
+    &["1,2", "1,3", "1,4", "1,2,3,4"],
+    &["1,2", "1,3", "1,4", "1"],
+    // Equal sets beside the pair.
+    &["1,2", "1,2", "1,2", "1,2,3"],
+    &["1,2", "1,2", "1,2", "2"],
+    &["1,2,3", "1,2,3", "2,3", "2,3"],
+    &["2,3", "2,3", "1,2,3", "1,2,3"],
+    &["1,2", "1,2", "1,3", "1,3"],
+    // 3 comes before it, with an earlier line and with a later one.
+    &["1,2", "3,4", "1,2,3", "3"],
+    &["1,2", "1", "1,3", "2,3"],
+    &["1,2,3", "1,2", "2,3", "1,3", "4,5"],
+    // So does 2, also where the faulty set is the one of the pair.
+    &["1,2", "1", "1,3", "1,5"],
+    &["1,2", "1,2,5", "1,3", "1,3"],
+    &["1,2", "0,1,2", "1,3", "1,3"],
+    &["1,2", "1", "3", "1,64"],
+    // So does 11.
+    &["1,2", "1", "1,3", "1,"],
+    &["1,2", "1", "1,3", "2,1"],
+];
+
 /// A text with more than a million events that could be accepted, so that
 /// code 9 shows, and after it again each code that comes before 9.
 pub fn spent() -> Text {
@@ -134,34 +240,43 @@ pub fn spent() -> Text {
 
 /// A run in which an inquire for an older grant arrives while the permission
 /// is held anew, handed on by another site: the inquire must do nothing.
-const OLD_INQUIRE: &str = "sites=3\nset=1\nset=1,2\nset=1,3\n\
-    ask=2\nmove=2,1\nmove=2,2\nmove=1,2\nmove=2,2\nleave=2\nmove=2,1\nmove=2,2\n\
-    ask=3\nask=2\nmove=2,1\nmove=2,2\nmove=1,2\nmove=2,2\nmove=3,1\nleave=2\nmove=2,1\nmove=2,2\n\
-    ask=2\nmove=2,1\nmove=1,3\nmove=3,3\nmove=3,3\nmove=1,3\nleave=3\nmove=3,2\n\
-    move=1,2\nmove=1,2\nmove=1,2\nmove=3,1\nmove=3,3\nmove=2,2\nmove=2,2\nleave=2\nmove=2,1\nmove=2,2\n";
+const OLD_INQUIRE: &str = "sites=3\nset=1,2\nset=1,2\nset=1,2\n\
+    ask=3\nask=1\nmove=3,1\nask=2\nmove=1,1\nmove=2,1\nmove=1,3\nmove=3,2\nmove=1,3\nmove=1,2\nmove=1,3\n\
+    move=2,3\nleave=3\nask=3\nmove=3,2\nmove=3,1\nmove=2,1\nmove=3,2\nmove=2,1\nmove=2,3\nleave=1\n\
+    move=1,3\nmove=2,3\nmove=2,3\nmove=2,2\nmove=1,2\nmove=3,1\nmove=3,1\nmove=1,1\nmove=1,2\nmove=2,1\n\
+    move=2,2\nmove=1,1\nmove=1,3\nmove=1,2\nmove=1,2\nmove=2,3\nmove=2,3\nmove=3,2\nmove=2,2\nleave=2\n\
+    move=2,2\nmove=2,3\nmove=2,1\nmove=2,2\nmove=2,3\nleave=3\nmove=3,1\nmove=3,2\n";
 
 /// A run in which a fail for an earlier ask reaches a site that has asked again
 /// and holds an inquired permission (request 2.3): with its last line the
-/// version before gives the permission back. It has the fewest events with
-/// which the lines of the versions can differ.
-pub const OLD_FAIL: &str = "sites=3\nset=1,2\nset=1\nset=1,2\n\
-    ask=2\nask=3\nmove=2,1\nmove=1,2\nmove=3,1\nmove=1,2\nleave=2\nmove=2,3\nmove=3,2\nmove=2,3\n\
-    leave=3\nask=3\nmove=3,2\nmove=3,2\nmove=2,3\nask=1\nmove=1,2\nmove=2,3\nmove=2,3\nmove=1,3\n";
+/// version before gives the permission back.
+pub const OLD_FAIL: &str = "sites=3\nset=1,2\nset=1,2\nset=1,2\n\
+    ask=2\nmove=2,1\nmove=1,2\nmove=2,2\nmove=2,2\nask=3\nmove=3,1\nmove=1,2\nleave=2\nmove=2,2\n\
+    move=3,2\nmove=2,3\nmove=2,3\nleave=3\nask=3\nmove=3,2\nmove=3,2\nmove=2,3\nask=1\nmove=1,2\n\
+    move=2,3\nmove=2,3\nmove=1,3\n";
 
-/// The same with two sites and one event more. The fail comes first, then an
-/// inquire, which the version before answers by giving the permission back.
-pub const OLD_FAIL_OF_TWO: &str = "sites=2\nset=2\nset=1,2\n\
-    ask=1\nmove=1,2\nmove=2,1\nask=2\nmove=2,1\nmove=1,2\nmove=2,2\nmove=2,1\nleave=1\nmove=1,2\n\
-    leave=2\nask=2\nmove=2,2\nmove=2,2\nmove=2,2\nmove=2,2\nmove=1,2\nask=1\nmove=1,2\nmove=2,2\n\
-    move=2,2\n";
+/// The same on three unlike sets, with one event fewer.
+pub const OLD_FAIL_OF_UNLIKE_SETS: &str = "sites=3\nset=1,2\nset=2,3\nset=1,3\n\
+    ask=2\nmove=2,3\nmove=3,2\nmove=2,2\nmove=2,2\nask=3\nmove=3,3\nmove=3,2\nmove=3,1\nmove=1,3\n\
+    leave=2\nmove=2,3\nleave=3\nask=3\nask=1\nmove=3,1\nmove=3,1\nmove=1,3\nmove=1,1\nmove=1,3\n\
+    move=1,3\nmove=3,3\n";
+
+/// The same with two sites. The fail comes first, then an inquire, which the
+/// version before answers by giving the permission back. On two sites no run with
+/// fewer events shows it.
+pub const OLD_FAIL_OF_TWO: &str = "sites=2\nset=1,2\nset=1,2\n\
+    ask=1\nask=2\nmove=1,1\nmove=1,1\nmove=1,2\nmove=2,1\nmove=1,1\nmove=1,2\nmove=2,1\nmove=2,2\nmove=2,1\n\
+    leave=1\nask=1\nmove=1,2\nmove=1,2\nleave=2\nask=2\nmove=1,2\nmove=2,2\nmove=2,2\nmove=2,2\nmove=1,2\n\
+    move=2,2\nmove=2,2\nmove=2,2\n";
 
 /// Runs in which a fail counts, each with the planted fault by which the fail
 /// would have another number and do nothing.
 const NUMBERED_FAILS: [(&str, &str); 3] = [
     (
         "former-head-gets-the-new-heads-number",
-        "sites=3\nset=1,2\nset=1,2,3\nset=1,2\nask=2\nmove=2,3\nask=3\nmove=3,1\nask=1\nmove=1,3\n\
-         move=2,1\nmove=1,2\nmove=3,2\nmove=3,2\nmove=1,3\nmove=2,2\nmove=1,3\nmove=2,3\n",
+        "sites=3\nset=2,3\nset=2,3\nset=2,3\nask=2\nmove=2,3\nask=3\nask=1\nmove=2,2\nmove=2,2\n\
+         move=3,2\nleave=2\nask=2\nmove=2,2\nmove=2,3\nmove=3,3\nmove=2,3\nmove=2,2\nmove=1,2\n\
+         move=1,3\nmove=3,2\nmove=2,2\nmove=2,2\nmove=3,2\nmove=2,2\n",
     ),
     (
         "fail-carries-the-arbiters-clock",
@@ -170,8 +285,8 @@ const NUMBERED_FAILS: [(&str, &str); 3] = [
     ),
     (
         "fail-carries-the-receivers-clock",
-        "sites=3\nset=3\nset=1,3\nset=1,3\nask=3\nask=2\nmove=3,1\nmove=1,3\nmove=2,3\nask=1\n\
-         move=1,3\nmove=2,1\nmove=1,3\nmove=1,3\nmove=3,3\nmove=3,3\n",
+        "sites=3\nset=1,2,3\nset=1,2,3\nset=1,2,3\nask=3\nmove=3,1\nask=1\nask=2\nmove=2,3\n\
+         move=2,1\nmove=1,3\nmove=1,3\nmove=1,3\nmove=3,3\nmove=3,3\nmove=1,3\n",
     ),
 ];
 
@@ -183,10 +298,11 @@ pub fn random(random: &mut Random) -> Text {
         38 => ("swelling", swelling(random)),
         39..=40 => ("blind", blind(random)),
         41..=48 => ("perhaps missing", perhaps_missing(random)),
-        49..=56 => ("faulty sets", faulty_sets(random)),
-        57..=63 => ("wrong count", wrong_count(random)),
-        64..=70 => ("soup", soup(random)),
-        71..=72 => ("noise", noise(random)),
+        49..=55 => ("nested", nested(random)),
+        56..=63 => ("faulty sets", faulty_sets(random)),
+        64..=69 => ("wrong count", wrong_count(random)),
+        70..=75 => ("soup", soup(random)),
+        76..=77 => ("noise", noise(random)),
         _ => ("damaged", damaged(random)),
     };
     Text { kind, bytes }
@@ -196,7 +312,7 @@ fn good_lists(random: &mut Random) -> Lists {
     if random.once_in(2) {
         rigs::any_family(random)
     } else {
-        rigs::meeting(random)
+        rigs::passing(random)
     }
 }
 
@@ -234,7 +350,7 @@ fn swelling(random: &mut Random) -> Vec<u8> {
 /// A valid text for a few sites, in which fails are left lying.
 fn slow_fails(random: &mut Random) -> Vec<u8> {
     let n = random.between(2, 5);
-    let lists = rigs::meeting_of_size(random, n);
+    let lists = rigs::passing_of_size(random, n);
     let count = random.between(200, 3_000);
     schedule::text(&lists, Schedule::slow_fails(Random::new(random.bits())), count)
 }
@@ -263,15 +379,29 @@ fn blind(random: &mut Random) -> Vec<u8> {
 }
 
 fn perhaps_missing(random: &mut Random) -> Vec<u8> {
-    let mut text = rigs::head(&rigs::perhaps_missing(random));
-    text += random.pick(&["", "ask=1\n", "ask=1", "rubbish\n", "ask=1\nmove=1,1\nask=2\n"]);
-    text.into_bytes()
+    let lists = rigs::perhaps_missing(random);
+    with_a_tail(random, &lists)
+}
+
+/// Sets of which one is strictly contained in another.
+fn nested(random: &mut Random) -> Vec<u8> {
+    let lists = rigs::nested(random);
+    with_a_tail(random, &lists)
+}
+
+fn with_a_tail(random: &mut Random, lists: &Lists) -> Vec<u8> {
+    let tail = random.pick(&["", "ask=1\n", "ask=1", "rubbish\n", "ask=1\nmove=1,1\nask=2\n"]);
+    (rigs::head(lists) + tail).into_bytes()
 }
 
 /// Sets of which some name a site that does not exist, are empty, or are not
-/// well formed; others may miss each other.
+/// well formed; others may miss each other or be strictly contained in another.
 fn faulty_sets(random: &mut Random) -> Vec<u8> {
-    let lists = if random.once_in(2) { good_lists(random) } else { rigs::perhaps_missing(random) };
+    let lists = match random.below(4) {
+        0 | 1 => good_lists(random),
+        2 => rigs::perhaps_missing(random),
+        _ => rigs::nested(random),
+    };
     let n = lists.len() as Site;
     let mut lines: Vec<String> = lists.iter().map(|list| rigs::set_line(list)).collect();
     for _ in 0..random.between(1, 3) {
@@ -314,7 +444,8 @@ fn wrong_count(random: &mut Random) -> Vec<u8> {
         }
     }
     if claimed > n && random.once_in(3) {
-        text += &"set=1\n".repeat(random.between(0, claimed - n + 1));
+        let list = if random.once_in(2) { vec![1] } else { lists[random.below(n)].clone() };
+        text += &rigs::set_line(&list).repeat(random.between(0, claimed - n + 1));
     }
     for _ in 0..random.below(6) {
         text += &format!("ask={}\n", random.between(1, n + 1));
@@ -330,7 +461,12 @@ fn soup(random: &mut Random) -> Vec<u8> {
     ];
     let mut text = String::new();
     if random.once_in(2) {
-        text += "sites=2\nset=1\nset=1,2\n";
+        text += random.pick(&[
+            "sites=2\nset=1\nset=1\n",
+            "sites=3\nset=1,2\nset=1,2\nset=1,3\n",
+            "sites=2\nset=1,2\nset=1,2\n",
+            "sites=2\nset=1\nset=1,2\n",
+        ]);
     }
     for _ in 0..random.below(60) {
         if random.once_in(3) {
@@ -388,7 +524,7 @@ mod tests {
             stops.extend(codes(&output, "stop="));
         }
         assert_eq!(steps, BTreeSet::from([0, 4, 5, 6, 7, 8]));
-        assert_eq!(stops, BTreeSet::from([1, 2, 3, 11]));
+        assert_eq!(stops, BTreeSet::from([1, 2, 3, 11, 17]));
     }
 
     #[test]
@@ -405,7 +541,8 @@ mod tests {
     /// The versions differ in the last line alone, by the yield.
     #[test]
     fn an_old_fail_is_met() {
-        for (text, flying) in [(OLD_FAIL, [4, 5]), (OLD_FAIL_OF_TWO, [2, 3])] {
+        let texts = [(OLD_FAIL, [4, 5]), (OLD_FAIL_OF_UNLIKE_SETS, [5, 6]), (OLD_FAIL_OF_TWO, [4, 5])];
+        for (text, flying) in texts {
             let mut census = crate::census::Census::default();
             play_with(Version::Present, text.as_bytes(), |rig, event| census.apply(rig, event));
             assert_eq!(census.never_seen(["fail: about another ask"]), Vec::<&str>::new());
@@ -431,7 +568,7 @@ mod tests {
     fn fixed_texts_show_every_stop() {
         let outputs: String =
             fixed().iter().map(|text| String::from_utf8(play(&text.bytes)).unwrap()).collect();
-        assert_eq!(codes(&outputs, "stop="), BTreeSet::from([1, 2, 3, 11]));
+        assert_eq!(codes(&outputs, "stop="), BTreeSet::from([1, 2, 3, 11, 17]));
         assert_eq!(codes(&outputs, "code="), BTreeSet::from([0, 4, 5, 6, 7]));
     }
 

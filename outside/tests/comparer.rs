@@ -30,7 +30,7 @@ fn plan(folder: &Path) -> Plan {
     Plan {
         version: Version::Present,
         seed: 3,
-        texts: Some(1_400),
+        texts: Some(2_000),
         time: None,
         spent: false,
         jobs: 2,
@@ -58,6 +58,19 @@ fn planted_faults_are_found_and_shrunk() {
         "fail-carries-the-arbiters-clock",
         "line-may-have-97-bytes",
         "last-line-needs-no-end",
+        "nested-sets-pass",
+        "equal-sets-are-refused",
+        "sets-must-be-equally-large",
+        "a-set-may-hold-an-earlier-one",
+        "a-set-may-lie-in-an-earlier-one",
+        "nested-sets-are-neighbours",
+        "sets-are-compared-with-the-first",
+        "17-names-the-earlier-set",
+        "17-goes-by-the-earlier-set",
+        "17-names-the-last-set",
+        "17-before-3",
+        "17-before-2",
+        "17-before-11",
     ] {
         let folder = folder(fault);
         let subject = reference().with("OUTSIDE_FAULT", fault);
@@ -92,8 +105,8 @@ fn one_text_is_played_by_both_versions() {
         assert!(output.status.success());
         String::from_utf8(output.stdout).unwrap().lines().last().unwrap().to_string()
     };
-    assert_eq!(last_line(&[]), "step=20 code=0 inside=0 waiting=2 flying=4");
-    assert_eq!(last_line(&["--earlier"]), "step=20 code=0 inside=0 waiting=2 flying=5");
+    assert_eq!(last_line(&[]), "step=23 code=0 inside=0 waiting=2 flying=4");
+    assert_eq!(last_line(&["--earlier"]), "step=23 code=0 inside=0 waiting=2 flying=5");
 }
 
 #[test]

@@ -93,10 +93,32 @@ fn planted_faults_are_found() {
         "lines-count-the-head",
         "stop-14-says-a-line",
         "usage-to-standard-output",
+        "sets-may-miss",
+        "nested-sets-are-read",
+        "a-set-around-an-earlier-one-is-read",
+        "a-set-inside-an-earlier-one-is-read",
+        "equal-sets-are-not-read",
+        "nested-sets-are-saved",
+        "nested-sets-give-17-for-14",
     ] {
         let subject = program(REFERENCE).with("OUTSIDE_FAULT", fault);
         assert_eq!(compare_state(&subject, &plan("faults")), Ok(false), "{fault}");
     }
+}
+
+fn present() -> Subject {
+    program(REFERENCE)
+}
+
+fn earlier() -> Subject {
+    program(REFERENCE).with("OUTSIDE_FAULT", "earlier-rule")
+}
+
+/// What a program prints for these words and this input.
+fn called(subject: Subject, words: &[&[u8]], input: &str) -> String {
+    let words: Vec<Vec<u8>> = words.iter().map(|word| word.to_vec()).collect();
+    let called = subject.exchange(&words, input.as_bytes(), usize::MAX, 10_000).unwrap();
+    String::from_utf8(called.output).unwrap()
 }
 
 /// One run, saved before its last event by either version.
@@ -104,13 +126,6 @@ fn planted_faults_are_found() {
 fn a_text_of_the_version_before_is_gone_on_with() {
     let file = folder("before").join("saved");
     let name = file.to_str().unwrap().as_bytes().to_vec();
-    let called = |subject: Subject, words: &[&[u8]], input: &str| {
-        let words: Vec<Vec<u8>> = words.iter().map(|word| word.to_vec()).collect();
-        let called = subject.exchange(&words, input.as_bytes(), usize::MAX, 10_000).unwrap();
-        String::from_utf8(called.output).unwrap()
-    };
-    let present = || program(REFERENCE);
-    let earlier = || program(REFERENCE).with("OUTSIDE_FAULT", "earlier-rule");
     let (before, last) = OLD_FAIL.split_at(OLD_FAIL.len() - "move=1,3\n".len());
     for (by, fail, flying) in [(earlier(), "message=5,1,3\n", 5), (present(), "message=5,1,3,1\n", 4)] {
         let saved = called(by, &[b"save"], before);
@@ -122,6 +137,24 @@ fn a_text_of_the_version_before_is_gone_on_with() {
     }
     // What stands in the file now is no text of the version before.
     assert_eq!(called(earlier(), &[b"save", &name], ""), "stop=14\n");
+}
+
+/// The version before plays and saves on sets inside others; this one does not,
+/// and does not read what that one has saved.
+#[test]
+fn nested_sets_of_the_version_before_are_turned_down() {
+    let file = folder("nested").join("saved");
+    let name = file.to_str().unwrap().as_bytes().to_vec();
+    for sets in ["set=1\nset=1,2\n", "set=1,2\nset=1\n"] {
+        let text = format!("sites=2\n{sets}ask=1\nmove=1,1\n");
+        let saved = called(earlier(), &[b"save"], &text);
+        assert!(saved.starts_with(&format!("sites=2\n{sets}accepted=2\n")), "{saved}");
+        fs::write(&file, &saved).unwrap();
+        assert_eq!(called(earlier(), &[b"save", &name], ""), saved);
+        assert_eq!(called(present(), &[b"save"], &text), "stop=17 line=3\n");
+        assert_eq!(called(present(), &[b"save", &name], ""), "stop=14\n");
+        assert_eq!(called(present(), &[b"play", &name], "move=1,1\n"), "stop=14\n");
+    }
 }
 
 #[test]

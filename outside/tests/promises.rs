@@ -4,7 +4,7 @@
 
 use outside::model::{votes, Body, Event, Family, Mode, Rig, Site, Version};
 use outside::random::Random;
-use outside::rigs::{any_votes, meeting, meeting_of_size, Lists};
+use outside::rigs::{passing, passing_of_size, passing_votes, Lists};
 use outside::saved::{read_text, text_of};
 use outside::schedule::Schedule;
 
@@ -116,10 +116,10 @@ fn check_served(mut rig: Rig, random: &mut Random) {
 /// Any sets, or few sites and a schedule that lets old fails arrive.
 fn any_run(random: &mut Random) -> (Lists, Schedule) {
     if random.once_in(2) {
-        (meeting(random), Schedule::new(Random::new(random.bits())))
+        (passing(random), Schedule::new(Random::new(random.bits())))
     } else {
         let n = random.between(2, 5);
-        (meeting_of_size(random, n), Schedule::slow_fails(Random::new(random.bits())))
+        (passing_of_size(random, n), Schedule::slow_fails(Random::new(random.bits())))
     }
 }
 
@@ -144,7 +144,7 @@ fn runs_of_the_families_keep_the_promises() {
 #[test]
 fn runs_on_votes_keep_the_promises() {
     for seed in 0..100 {
-        let lists = votes::lists(&any_votes(&mut Random::new(seed))).unwrap();
+        let lists = votes::lists(&passing_votes(&mut Random::new(seed))).unwrap();
         check_run(&lists, &mut Schedule::busy(Random::new(seed)), 1_000);
     }
 }
@@ -159,7 +159,7 @@ fn runs_with_a_full_list_keep_the_promises() {
 fn every_ask_is_served() {
     for seed in 0..100 {
         let mut random = Random::new(seed);
-        let mut rig = Rig::from_lists(&meeting(&mut random)).unwrap();
+        let mut rig = Rig::from_lists(&passing(&mut random)).unwrap();
         for site in rig.sites() {
             rig.apply(Event::Ask(site)).unwrap();
         }

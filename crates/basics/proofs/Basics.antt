@@ -130,6 +130,12 @@ unfolding lowest
 lowest-none p zero h = refl
 lowest-none p (suc n) h = rw (lowest-none p n (λ k f g. h k f (omega arith)), h (suc n) (omega arith) (omega arith))
 
+-- of two tests that agree on 1 to n
+pub lowest-same : (p q : ℕ → Bool) (n : ℕ) → ((k : ℕ) → 1 ≤ k → k ≤ n → p k ≡ q k) → lowest p n ≡ lowest q n
+unfolding lowest
+lowest-same p q zero h = refl
+lowest-same p q (suc n) h = rw (lowest-same p q n (λ k f g. h k f (omega arith)), h (suc n) (omega arith) (omega arith))
+
 -- one more that fails, as a loop's turn has it
 pub lowest-more : (p : ℕ → Bool) (i : ℕ) → lowest p i ≡ 0 → p (suc i) ≡ false → lowest p (i + 1) ≡ 0
 unfolding lowest
@@ -231,10 +237,58 @@ count-one f i (suc n) l e h u = by-bool (eqb i (suc n))
     below zero g = refl
     below (suc m) g = rw (h (suc m) (λ z. omega arith)) (below m (omega arith))
 
+-- where all pass
+pub count-all : (p : ℕ → Bool) (n : ℕ) → ((k : ℕ) → 1 ≤ k → k ≤ n → p k ≡ true) → count p n ≡ n
+unfolding count
+count-all p zero h = refl
+count-all p (suc n) h = rw (h (suc n) (omega arith) (omega arith)) (ap suc (count-all p n (λ k f g. h k f (omega arith))))
+
+-- of the sites 1 to m + d: those up to m, and the d behind them
+pub count-behind : (p : ℕ → Bool) (m d : ℕ) → count p (m + d) ≡ count p m + count (λ k. p (m + k)) d
+unfolding count
+count-behind p m zero = let e : m + 0 ≡ m = omega arith in rw e (omega arith)
+count-behind p m (suc d) =
+    let e : m + suc d ≡ suc (m + d) = omega arith in
+    let w = count-behind p m d in
+    by-bool (p (suc (m + d)))
+    (λ t. rw (e, t) (omega arith))
+    (λ t. rw (e, t) w)
+
 pub count-some : (f : ℕ → Bool) (n : ℕ) → count f n ≢ 0 → (k : ℕ) × (f k ≡ true)
 unfolding count
 count-some f zero h = absurd (h refl)
 count-some f (suc n) h = by-bool (f (suc n)) (λ e. (suc n, e)) (λ e. count-some f n (rw e at h))
+
+-- of two tests, where what passes the first passes the second: no more pass the first
+pub count-within : (p q : ℕ → Bool) (n : ℕ) → ((k : ℕ) → 1 ≤ k → k ≤ n → p k ≡ true → q k ≡ true) → count p n ≤ count q n
+unfolding count
+count-within p q zero h = omega arith
+count-within p q (suc n) h =
+    let w = count-within p q n (λ k a b. h k a (omega arith)) in
+    by-bool (p (suc n))
+    (λ t. rw (t, h (suc n) (omega arith) (omega arith) t) (omega arith))
+    (λ t. by-bool (q (suc n)) (λ u. rw (t, u) (omega arith)) (λ u. rw (t, u) w))
+
+-- and if no fewer do, what passes the second passes the first
+pub count-filled :
+    (p q : ℕ → Bool) (n : ℕ) → ((k : ℕ) → 1 ≤ k → k ≤ n → p k ≡ true → q k ≡ true) → count q n ≤ count p n
+    → (k : ℕ) → 1 ≤ k → k ≤ n → q k ≡ true → p k ≡ true
+unfolding count
+count-filled p q zero h l k a b e = absurd (omega arith)
+count-filled p q (suc n) h l k a b e =
+    let within : (i : ℕ) → 1 ≤ i → i ≤ n → p i ≡ true → q i ≡ true = λ i c d. h i c (omega arith) in
+    let w = count-within p q n within in
+    by-bool (p (suc n))
+    (λ t. let m = rw (t, h (suc n) (omega arith) (omega arith) t) at l in
+    by-bool (eqb k (suc n))
+    (λ z. rw (eqb-true k (suc n) z) t)
+    (λ z. let ne = eqb-false k (suc n) z in count-filled p q n within (omega arith) k a (omega arith) e))
+    (λ t. by-bool (q (suc n))
+    (λ u. let m = rw (t, u) at l in absurd (omega arith))
+    (λ u. let m = rw (t, u) at l in
+    by-bool (eqb k (suc n))
+    (λ z. clash (q (suc n)) (rw (eqb-true k (suc n) z) at e) u)
+    (λ z. let ne = eqb-false k (suc n) z in count-filled p q n within m k a (omega arith) e)))
 
 -- none pass exactly where not one passes
 pub count-any : (p : ℕ → Bool) (n : ℕ) → eqb (count p n) 0 ≡ not (any p n)

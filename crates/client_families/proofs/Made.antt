@@ -35,12 +35,9 @@ module _ (f : Family) {r : Made} {after : List ℕ} (m : r ≡ made f siteLimit)
 
 -- the same of votes
 module _ (n : ℕ) (votes : List ℕ) {r : ℕ} {after : List ℕ} (c : r ≡ votesCode n votes siteLimit) (s : after ≡ filledByVotes n votes (replicate siteLimit 0)) where
-  pub votes-rig : r ≡ 0 → setupCode n after ≡ 0 → setupAnswer n after ≡ votesRig n votes
-  unfolding filledByVotes votesRig setupAnswer
-  votes-rig e a =
-      let z = eq-eqb (votesCode n votes siteLimit) 0 (sym c ∙ e) in
-      let b = rw (s, z) at a in
-      rw (s, z, b)
+  pub votes-rig : r ≡ 0 → setupAnswer n after ≡ votesRig n votes
+  unfolding filledByVotes votesRig
+  votes-rig e = let z = eq-eqb (votesCode n votes siteLimit) 0 (sym c ∙ e) in rw (s, z)
 
   pub refused-votes : (r ≡ 0 → ⊥) → record { code = r; rig = restingRig 0 after } ≡ votesRig n votes
   unfolding filledByVotes votesRig noRig

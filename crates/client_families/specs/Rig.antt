@@ -10,16 +10,17 @@ use Rattle.family_rules.specs.Family.{listed, sizeOf, setsOf}
 use Rattle.family_votes.specs.Votes.{setsByVotes}
 use Rattle.families.specs.ByVotes.{votesCode}
 use Rattle.setup.specs.declared.Answer.{Answer}
+use Rattle.setup.specs.Answer.{setupAnswer}
 
 -- Setup accepts the sets of every listed family, and makes their fresh rig; "12 if the parameter is not listed", with a rig without sites.
 unfoldable pub familyRig : Family → Answer
 familyRig f = cond (listed f) (record { code = 0; rig = freshRig (sizeOf f) (setsOf f) }) (record { code = 12; rig = noRig })
 
--- the same of a family by votes, with the code of a refusal
+-- of a family by votes setup's answer, with the code of a refusal where it is not made
 unfoldable pub votesRig : ℕ → List ℕ → Answer
 votesRig n votes =
     let code = votesCode n votes siteLimit in
-    cond (eqb code 0) (record { code = 0; rig = freshRig n (setsByVotes n votes) }) (record { code = code; rig = noRig })
+    cond (eqb code 0) (setupAnswer n (setsByVotes n votes)) (record { code = code; rig = noRig })
 
 -- a set as its members: "its bit n − 1, the lowest being bit 0, stands for site n"
 unfoldable pub ofSites : List ℕ → ℕ

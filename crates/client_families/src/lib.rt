@@ -8,6 +8,9 @@ use setup::Answer;
 use setup::resting;
 use setup::setup;
 ghost use mathlib.Core.Path.{_≡_};
+ghost use mathlib.Core.Logic.{_⊎_};
+ghost use Rattle.rig.specs.Limits.{siteLimit};
+ghost use Rattle.families.specs.ByVotes.{votesCode};
 ghost use Rattle.client_families.specs.Rig.{familyRig, votesRig, nineSets};
 
 // Generates a family's sets and sets them up.
@@ -25,9 +28,10 @@ pub fn family_rig(family: Family) -> Answer
     setup(made.size, &sets)
 }
 
-// Generates the sets of n sites by their votes and sets them up.
+// Generates the sets of n sites by their votes and sets them up. Where they are made, setup accepts them or answers 17.
 pub fn votes_rig(n: u64, votes: &[u64; Rig::SITES]) -> Answer
-    ensures { λ r. ⌜ r ≡ votesRig n (now (votes .entry)) ⌝ }
+    ensures determined { λ r. ⌜ r ≡ votesRig n (now (votes .entry)) ⌝ }
+    ensures judged { λ r. ⌜ (votesCode n (now (votes .entry)) siteLimit ≡ 0 → (r .code ≡ 0) ⊎ (r .code ≡ 17)) ⌝ }
 {
     let mut sets = [0u64; Rig::SITES];
     let code = generate_by_votes(n, votes, &mut sets);

@@ -66,6 +66,9 @@ wholeCases =
     ∷ case "sets 1 and 2 share no site" (setIs 2 4 base) (Ask 2) 10
     ∷ case "sets 2 and 3 share no site" (setIs 2 2 base) (Ask 2) 10
     ∷ case "sets 1 and 3 share no site, while neighbours do" (setIs 1 2 (setIs 2 6 (setIs 3 4 (alike 3 7)))) (Ask 2) 10
+    ∷ case "set 3 strictly contains earlier sets" (setIs 3 7 base) (Ask 2) 10
+    ∷ case "sets 2 and 3 are strictly contained in set 1" (setIs 1 7 base) (Ask 2) 10
+    ∷ case "equal sets" (setIs 2 3 base) (Ask 2) 0
     ∷ case "a set past N" (setIs 4 1 base) (Ask 2) 10
     ∷ case "a set at the last place" (setIs siteLimit 1 base) (Ask 2) 10
     -- an entry outside its range

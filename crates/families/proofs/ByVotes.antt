@@ -11,13 +11,13 @@ use Rattle.rig.specs.Limits.{siteLimit}
 use Rattle.basics.proofs.Basics.{and-split, and-second}
 use Rattle.model.specs.Setup.{sizeListed}
 use Rattle.model.specs.State.{inRange}
-use Rattle.model.proofs.Setup.{not-coded}
+use Rattle.model.proofs.Setup.{not-coded, zero-or-17}
 use Rattle.model.proofs.Shaped.{within}
 use Rattle.family_sets.specs.Meeting.{SiteTo}
 use Rattle.family_sets.proofs.Rule.{set-made, sets-meet}
 use Rattle.family_votes.specs.Votes.{votesListed, takes, setsByVotes, VotesFit}
 use Rattle.family_votes.proofs.Listed.{listed-none-above, listed-sum}
-use Rattle.family_votes.proofs.Meeting.{votes-meet, accepted}
+use Rattle.family_votes.proofs.Meeting.{votes-meet, meets}
 use Rattle.family_votes.proofs.Shortest.{run-shortest}
 use Rattle.families.specs.ByVotes.{votesCode, VotesKept}
 
@@ -71,5 +71,6 @@ module _ (n : ℕ) (votes : List ℕ) (entries : ℕ) where
         record {
           meet = sets-meet (takes n votes) n h (votes-meet n votes s);
           shortest = λ k r. rw (set-made (takes n votes) n h k r) (run-shortest n votes s k r);
-          accepted = accepted n votes s h;
+          passes = meets n votes s h;
+          zeroOr17 = zero-or-17 n (setsByVotes n votes) (meets n votes s h);
         }

@@ -2,13 +2,14 @@
 use Prim.Native.Nat.{ℕ}
 use mathlib.Core.Path.{_≡_}
 use mathlib.Core.Bool.{not, _&&_, cond}
+use mathlib.Core.Logic.{_⊎_}
 use mathlib.Core.List.{List}
 use lib.Dec.{eqb}
 use lib.ListN.{length}
 use Rattle.rig.specs.Limits.{siteLimit}
 use Rattle.model.specs.Tables.{at}
 use Rattle.model.specs.Sets.{member}
-use Rattle.model.specs.Setup.{sizeListed, setupCode}
+use Rattle.model.specs.Setup.{sizeListed, meetingCode, setupCode}
 use Rattle.family_sets.specs.Meeting.{SiteTo, Common}
 use Rattle.family_votes.specs.Votes.{votesListed, setsByVotes, ShortestRun}
 
@@ -24,8 +25,10 @@ votesCode n votes entries =
 unfoldable pub filledByVotes : ℕ → List ℕ → List ℕ → List ℕ
 filledByVotes n votes sets = cond (eqb (votesCode n votes (length sets)) 0) (setsByVotes n votes) sets
 
--- what holds of the sets that an accepted call leaves: "that two sets meet and that no shorter run from n would do"; and setup accepts them
+-- what holds of the sets that an accepted call leaves: "that two sets meet and that no shorter run from n would do". So setup gives none of the codes 13,
+-- 1, 2 and 3; request 2.6: a family in which one set strictly contains another "is made as before, but setup rejects it"
 pub record VotesKept (n : ℕ) (votes sets : List ℕ) : Type 0 where
   pub meet : (k l : ℕ) → SiteTo n k → SiteTo n l → Common n (member (at 0 sets k)) (member (at 0 sets l))
   pub shortest : (k : ℕ) → SiteTo n k → ShortestRun n votes k (at 0 sets k)
-  pub accepted : setupCode n sets ≡ 0
+  pub passes : meetingCode n sets ≡ 0
+  pub zeroOr17 : (setupCode n sets ≡ 0) ⊎ (setupCode n sets ≡ 17)

@@ -27,3 +27,7 @@ gridColumn s n = 1 + (n - 1) % s
 -- "a site's set is its row and its column": the s sites of its row, then the s sites of its column
 unfoldable pub gridEntry : ℕ → ℕ → ℕ → ℕ
 gridEntry s n k = cond (leb k s) (gridSite s (gridRow s n) k) (gridSite s (k - s) (gridColumn s n))
+
+-- how many sites a set has: the row and the column share one
+abbrev pub gridMembers : ℕ → ℕ
+gridMembers s = s + s - 1

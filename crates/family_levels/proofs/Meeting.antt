@@ -19,20 +19,20 @@ module _ (a b c : ℕ) (rows : 1 ≤ a) (bays : 1 ≤ b) (levels : 1 ≤ c) wher
   level-pos = mul-pos rows bays
 
   -- the place of a site on its level, from 1
-  abbrev place : ℕ → ℕ
+  abbrev pub place : ℕ → ℕ
   place n = 1 + (n - 1) % (a * b)
 
-  place-low : (n : ℕ) → SiteTo (a * b) (place n)
+  pub place-low : (n : ℕ) → SiteTo (a * b) (place n)
   place-low n = let l = mod-lt (n - 1) level-pos in (omega arith, omega arith)
 
-  level-most : (n : ℕ) → SiteTo (levelsSize a b c) n → SiteTo c (levelOf a b n)
+  pub level-most : (n : ℕ) → SiteTo (levelsSize a b c) n → SiteTo c (levelOf a b n)
   level-most n h =
       let e = mul-comm (a * b) c in
       let l = div-lt-iff-lt-mul {x = n - 1} {y = c} level-pos .1 (omega arith) in
       (omega arith, omega arith)
 
   -- the row and the bay of a site's place are its own
-  abbrev site : ℕ → ℕ → ℕ
+  abbrev pub site : ℕ → ℕ → ℕ
   site n l = levelsSite a b (rowOf a b n) (bayOf a b n) l
 
   at-place : (n m : ℕ) → levelsEntry a b n (place m) ≡ site m (levelOf a b n)
@@ -48,7 +48,7 @@ module _ (a b c : ℕ) (rows : 1 ≤ a) (bays : 1 ≤ b) (levels : 1 ≤ c) wher
       rw (lt-leb (a * b + l) (a * b) (omega arith), e)
 
   -- the number of a site is its place behind the levels below
-  site-number : (n l : ℕ) → site n l ≡ (l - 1) * (a * b) + place n
+  pub site-number : (n l : ℕ) → site n l ≡ (l - 1) * (a * b) + place n
   site-number n l =
       let r : rowOf a b n - 1 ≡ (n - 1) % (a * b) / b = omega arith in
       let e = div-add-mod' ((n - 1) % (a * b)) b in
@@ -135,7 +135,7 @@ module _ (a b c : ℕ) (rows : 1 ≤ a) (bays : 1 ≤ b) (levels : 1 ≤ c) wher
         entered (a * b + levelOf a b m) (omega arith, omega arith) (sym (own-site m (k .0)) ∙ rw (e, f) (sym (at-level n (levelOf a b m) (q .0))))
 
     -- the sites that the words name
-    abbrev named : Bool
+    abbrev pub named : Bool
     named = eqb (levelOf a b m) (levelOf a b n) || (eqb (rowOf a b m) (rowOf a b n) && eqb (bayOf a b m) (bayOf a b n))
 
     entry-named : (i : ℕ) → 1 ≤ i → m ≡ levelsEntry a b n i → named ≡ true

@@ -5,6 +5,7 @@ use mathlib.Core.Path.{_≡_}
 use mathlib.Core.Bool.{Bool, _&&_, _||_, cond}
 use lib.Dec.{eqb, leb}
 use Rattle.rig.specs.Limits.{siteLimit}
+use Rattle.basics.specs.Helpers.{count}
 use Rattle.family_sets.specs.Meeting.{SiteTo, Common}
 use Rattle.family_sets.specs.Rule.{isEntry}
 
@@ -18,6 +19,10 @@ levelsSize a b c = a * b * c
 -- the a × b sites of a level, and the c sites with a row and a bay
 abbrev pub levelsWidth : ℕ → ℕ → ℕ → ℕ
 levelsWidth a b c = a * b + c
+
+-- how many sites a set has: the level, and one site of each other level
+abbrev pub levelsMembers : ℕ → ℕ → ℕ → ℕ
+levelsMembers a b c = a * b + c - 1
 
 -- "level by level, row by row": the site at a row, a bay and a level, each from 1
 abbrev pub levelsSite : ℕ → ℕ → ℕ → ℕ → ℕ → ℕ
@@ -67,6 +72,12 @@ abbrev pub LevelsMeet : Type 0
 LevelsMeet =
     (a b c : ℕ) → 1 ≤ a → 1 ≤ b → 1 ≤ c → (n m : ℕ) → SiteTo (levelsSize a b c) n → SiteTo (levelsSize a b c) m
     → Common (levelsSize a b c) (inLevels a b c n) (inLevels a b c m)
+
+-- request 2.6: for all sides the sets are equally large
+abbrev pub LevelsEqual : Type 0
+LevelsEqual =
+    (a b c : ℕ) → 1 ≤ a → 1 ≤ b → 1 ≤ c → (n : ℕ) → SiteTo (levelsSize a b c) n
+    → count (inLevels a b c n) (levelsSize a b c) ≡ levelsMembers a b c
 
 -- what the inner calls ask of the rows and bays of a level
 abbrev pub LevelFits : ℕ → ℕ → Type 0

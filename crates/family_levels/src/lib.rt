@@ -6,7 +6,7 @@ ghost use Prim.Native.Nat.{_+_, _≤_};
 ghost use Rattle.rig.specs.Limits.{siteLimit};
 ghost use Rattle.family_sets.specs.Meeting.{SiteTo};
 ghost use Rattle.family_levels.specs.Levels.{sidesListed, levelsSite, levelOf, rowOf, bayOf, levelsEntry, LevelFits};
-ghost use Rattle.family_levels.specs.Levels.{SitesPlaced, PlacesNumbered, TakesLevelAndBay, LevelsMeet};
+ghost use Rattle.family_levels.specs.Levels.{SitesPlaced, PlacesNumbered, TakesLevelAndBay, LevelsMeet, LevelsEqual};
 
 // Whether the sides are listed. Only sides that are in the range of a site are multiplied, so that no product passes 64 bits.
 pub fn sides_listed(a: u64, b: u64, c: u64) -> bool
@@ -78,9 +78,9 @@ pub fn levels_taken() -> u8
     0
 }
 
-// Every two sets meet.
+// Every two sets meet, and all are equally large.
 pub fn levels_meet() -> u8
-    ensures { λ r. ⌜ (r ≡ 0) × LevelsMeet ⌝ }
+    ensures { λ r. ⌜ (r ≡ 0) × LevelsMeet × LevelsEqual ⌝ }
 {
     0
 }

@@ -1,13 +1,17 @@
 -- Document 01, "Request set families", and request 2.1: the families by their rules, and the sets of each.
 use Prim.Native.Nat.{ℕ}
-use mathlib.Core.Bool.{Bool}
+use mathlib.Core.Bool.{Bool, true}
+use mathlib.Core.Path.{_≡_}
 use mathlib.Core.List.{List}
+use Rattle.basics.specs.Helpers.{count}
+use Rattle.model.specs.Setup.{setupCode}
+use Rattle.family_sets.specs.Meeting.{SiteTo}
 use Rattle.family_sets.specs.Rule.{isEntry, setBy, setsBy}
 use Rattle.family_rules.specs.declared.Family.{Family}
 use Rattle.family_rules.specs.declared.Family.the-variants.{Grid, Billiard, Plane, Levels}
-use Rattle.family_grid.specs.Grid.{sideListed, gridSize, gridWidth, gridEntry}
+use Rattle.family_grid.specs.Grid.{sideListed, gridSize, gridWidth, gridEntry, gridMembers}
 use Rattle.family_billiard.specs.Billiard.{qListed, qComputed, billiardSize, billiardEntry}
-use Rattle.family_levels.specs.Levels.{sidesListed, levelsSize, levelsWidth, levelsEntry}
+use Rattle.family_levels.specs.Levels.{sidesListed, levelsSize, levelsWidth, levelsMembers, levelsEntry}
 use Rattle.family_plane.specs.Plane.{pListed, planeSize, planeWidth, planeEntry}
 
 -- "side s from 1 to 5", "q of 3, 5 or 7", "p of 2, 3 or 5", "sides a, b and c, each at least 1, product at most 31"
@@ -38,6 +42,13 @@ widthOf (Billiard q) = q
 widthOf (Plane p) = planeWidth p
 widthOf (Levels a b c) = levelsWidth a b c
 
+-- how many sites each set has: some entries of a grid and of levels name a site twice
+unfoldable pub membersOf : Family → ℕ
+membersOf (Grid s) = gridMembers s
+membersOf (Billiard q) = q
+membersOf (Plane p) = planeWidth p
+membersOf (Levels a b c) = levelsMembers a b c
+
 -- the k-th site named for the set of site n, k from 1
 unfoldable pub entry : Family → ℕ → ℕ → ℕ
 entry (Grid s) = gridEntry s
@@ -56,3 +67,11 @@ setAt f = setBy (hasSite f) (sizeOf f)
 -- the buffer of sets
 abbrev pub setsOf : Family → List ℕ
 setsOf f = setsBy (hasSite f) (sizeOf f)
+
+-- all sets of one family are equally large
+abbrev pub EquallyLarge : Type 0
+EquallyLarge = (f : Family) → listed f ≡ true → (n : ℕ) → SiteTo (sizeOf f) n → count (hasSite f n) (sizeOf f) ≡ membersOf f
+
+-- so that setup accepts the sets of each: no code of 13, 1, 2 and 3, and by request 2.6 no 17
+abbrev pub FamilyAccepted : Type 0
+FamilyAccepted = (f : Family) → listed f ≡ true → setupCode (sizeOf f) (setsOf f) ≡ 0

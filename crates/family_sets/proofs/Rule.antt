@@ -1,4 +1,4 @@
--- The sets that a rule makes, and that setup accepts them where the rule names a common site for every two.
+-- The sets that a rule makes: they meet where the rule names a common site for every two, and setup accepts them where it takes equally many for each.
 use Prim.Native.Nat.{ℕ, zero, suc, _+_, _≤_, _<_}
 use mathlib.Core.Path.{_≡_, refl, sym, _∙_}
 use mathlib.Core.Bool.{Bool, true}
@@ -11,15 +11,17 @@ use lib.ListN.{length, take, set, length-append, List·getD-append}
 use lib.Seq.{getD-append-seam, take-all, take-suc-set}
 use borrow.Author.Tests.{eqb-true, eqb-false, le-leb, lt-ltb}
 use Rattle.rig.specs.Limits.{siteLimit}
-use Rattle.basics.proofs.Basics.{by-bool, clash, and-true, not-of}
+use Rattle.basics.specs.Helpers.{all, count}
+use Rattle.basics.proofs.Basics.{by-bool, clash, and-true, not-of, all-at, count-same}
 use Rattle.model.specs.Tables.{at}
 use Rattle.model.specs.Sets.{member, setOf, names}
 use Rattle.model.proofs.Lawful.{no-members}
+use Rattle.model.proofs.Setup.{meeting}
 use Rattle.family_sets.specs.Meeting.{SiteTo, Common}
-use Rattle.family_sets.specs.Rule.{setBy, setsUpTo, codeBy}
+use Rattle.family_sets.specs.Rule.{setBy, setsUpTo, meetingBy, codeBy}
 use Rattle.family_sets.proofs.Bounds.{set-below}
 use Rattle.family_sets.proofs.Members.{member-of}
-use Rattle.family_sets.proofs.Meeting.{meeting-accepted}
+use Rattle.family_sets.proofs.Meeting.{meeting-accepted, equal-accepted}
 
 -- a set with a site of 1 to n in it names sites of 1 to n, and is not empty
 set-names : (p : ℕ → Bool) (n m : ℕ) → SiteTo n m → p m ≡ true → names n (setOf p n) ≡ true
@@ -82,9 +84,23 @@ module _ (takes : ℕ → ℕ → Bool) (size : ℕ) where
             second = rw (set-made l b) (member-of (takes l) size (s .site) (r .0) (r .1) ∙ s .second);
           }
 
-      -- and setup's code is 0
-      pub rule-accepted : codeBy takes size ≡ 0
-      rule-accepted = meeting-accepted size (setsUpTo takes size siteLimit) (length-sets siteLimit) h named sets-meet
+      -- and setup gives none of the codes 13, 1, 2 and 3
+      pub rule-meets : meetingBy takes size ≡ 0
+      rule-meets = meeting-accepted size (setsUpTo takes size siteLimit) (length-sets siteLimit) h named sets-meet
         where
           named : (k : ℕ) → SiteTo size k → names size (at 0 (setsUpTo takes size siteLimit) k) ≡ true
           named k a = let s = common k k a a in rw (set-made k a) (set-names (takes k) size (s .site) (s .inRange) (s .first))
+
+  -- equally many sites for each, as one test
+  abbrev pub eachTakes : ℕ → Bool
+  eachTakes width = all (λ n. eqb (count (takes n) size) width) size
+
+  pub each-taken : (width : ℕ) → eachTakes width ≡ true → (n : ℕ) → SiteTo size n → count (takes n) size ≡ width
+  each-taken width h n r = eqb-true _ width (all-at _ size n h (r .0) (r .1))
+
+  -- where it takes equally many sites for each, setup's code is 0
+  pub rule-accepted : meetingBy takes size ≡ 0 → (width : ℕ) → ((n : ℕ) → SiteTo size n → count (takes n) size ≡ width) → codeBy takes size ≡ 0
+  rule-accepted meets width equal =
+      let a = meeting size (setsUpTo takes size siteLimit) meets in
+      equal-accepted size width (setsUpTo takes size siteLimit) meets
+      (λ k h. rw (set-made (a .low, a .high) k h) (count-same _ (takes k) size (member-of (takes k) size)) ∙ equal k h)

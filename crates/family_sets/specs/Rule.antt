@@ -6,7 +6,7 @@ use lib.Dec.{eqb, leb}
 use Rattle.rig.specs.Limits.{siteLimit}
 use Rattle.basics.specs.Helpers.{any}
 use Rattle.model.specs.Sets.{setOf}
-use Rattle.model.specs.Setup.{setupCode}
+use Rattle.model.specs.Setup.{meetingCode, setupCode}
 
 -- a rule that names the members one by one, `entry n k` the k-th for the set of site n, k from 1 to `width`: it names site m
 unfoldable pub isEntry : (ℕ → ℕ → ℕ) → ℕ → ℕ → ℕ → Bool
@@ -24,6 +24,9 @@ setsUpTo takes size (suc i) = setsUpTo takes size i ++ (setBy takes size (suc i)
 abbrev pub setsBy : (ℕ → ℕ → Bool) → ℕ → List ℕ
 setsBy takes size = setsUpTo takes size siteLimit
 
--- the code that setup gives them
+-- whether they meet, and the code that setup gives them
+abbrev pub meetingBy : (ℕ → ℕ → Bool) → ℕ → ℕ
+meetingBy takes size = meetingCode size (setsBy takes size)
+
 abbrev pub codeBy : (ℕ → ℕ → Bool) → ℕ → ℕ
 codeBy takes size = setupCode size (setsBy takes size)

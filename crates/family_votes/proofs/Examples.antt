@@ -5,8 +5,9 @@ use mathlib.Core.List.{List, [], _∷_}
 use mathlib.Core.Path.{_≡_, refl}
 use Rattle.basics.specs.Helpers.{all, any, lowest}
 use Rattle.model.specs.Tables.{at}
-use Rattle.model.specs.Sets.{setOf}
-use Rattle.family_sets.specs.Rule.{isEntry}
+use Rattle.model.specs.Sets.{member, setOf, meet, names, contains, strictlyContains, nested}
+use Rattle.model.specs.Setup.{sizeListed, allName, meetsEarlier, allMeet, minimalEarlier, allMinimal, meetingCode, setupCode}
+use Rattle.family_sets.specs.Rule.{isEntry, setBy, setsUpTo, codeBy}
 use Rattle.family_votes.specs.Votes.{noneAbove, allZero, votesListed, voteSum, siteAfter, siteFrom, taken, exceedsHalf, runLength, takes}
 
 -- the set of a site
@@ -17,6 +18,11 @@ set size votes n = setOf (takes size votes n) size
 main-desk : (set 4 (3 ∷ 1 ∷ 1 ∷ 1 ∷ []) 1 ≡ 3) × (set 4 (3 ∷ 1 ∷ 1 ∷ 1 ∷ []) 2 ≡ 15) × (set 4 (3 ∷ 1 ∷ 1 ∷ 1 ∷ []) 3 ≡ 13) × (set 4 (3 ∷ 1 ∷ 1 ∷ 1 ∷ []) 4 ≡ 9)
 unfolding setOf isEntry any runLength lowest exceedsHalf taken siteFrom siteAfter voteSum at
 main-desk = (refl, refl, refl, refl)
+
+-- Request 2.6: the set of site 2 strictly contains that of site 1, so setup rejects the family. Of votes 1, 1 and 1 all sets have two sites.
+contained : (codeBy (takes 4 (3 ∷ 1 ∷ 1 ∷ 1 ∷ [])) 4 ≡ 17) × (codeBy (takes 3 (1 ∷ 1 ∷ 1 ∷ [])) 3 ≡ 0)
+unfolding setOf isEntry any all runLength lowest exceedsHalf taken siteFrom siteAfter voteSum at setBy setsUpTo member meet names contains strictlyContains nested sizeListed allName meetsEarlier allMeet minimalEarlier allMinimal meetingCode setupCode
+contained = (refl, refl)
 
 -- Votes 0, 2, 0, 1, 0 have the sum 3: site 1, without votes, takes site 2; site 3 takes 3, 4, 5, 1 and 2.
 without-votes : (set 5 (0 ∷ 2 ∷ 0 ∷ 1 ∷ 0 ∷ []) 1 ≡ 3) × (set 5 (0 ∷ 2 ∷ 0 ∷ 1 ∷ 0 ∷ []) 2 ≡ 2) × (set 5 (0 ∷ 2 ∷ 0 ∷ 1 ∷ 0 ∷ []) 3 ≡ 31)

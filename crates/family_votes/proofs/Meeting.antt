@@ -9,8 +9,8 @@ use borrow.Author.Tests.{leb-true, leb-false, ltb-true, ltb-false}
 use Rattle.rig.specs.Limits.{siteLimit}
 use Rattle.basics.proofs.Basics.{by-bool}
 use Rattle.family_sets.specs.Meeting.{SiteTo, Common}
-use Rattle.family_sets.specs.Rule.{codeBy}
-use Rattle.family_sets.proofs.Rule.{rule-accepted}
+use Rattle.family_sets.specs.Rule.{meetingBy}
+use Rattle.family_sets.proofs.Rule.{rule-meets}
 use Rattle.family_votes.specs.Votes.{voteSum, siteFrom, taken, exceedsHalf, runLength, takes}
 use Rattle.family_votes.proofs.Runs.{from-below, from-past, run-has}
 use Rattle.family_votes.proofs.Sums.{taken-more, taken-below, taken-past}
@@ -93,6 +93,6 @@ module _ (size : ℕ) (votes : List ℕ) (some : 0 < voteSum votes size) where
       let s = in-order j i (omega arith) (omega arith) in
       record { site = s .site; inRange = s .inRange; first = s .second; second = s .first })
 
-  -- setup accepts them
-  pub accepted : SiteTo siteLimit size → codeBy (takes size votes) size ≡ 0
-  accepted h = rule-accepted (takes size votes) size h votes-meet
+  -- setup gives them none of the codes 13, 1, 2 and 3
+  pub meets : SiteTo siteLimit size → meetingBy (takes size votes) size ≡ 0
+  meets h = rule-meets (takes size votes) size h votes-meet

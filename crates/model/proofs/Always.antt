@@ -39,10 +39,10 @@ use Rattle.model.specs.Site.{takes}
 use Rattle.model.specs.Run.{fresh, run, Always}
 use Rattle.model.specs.Losses.{ShapedWithLosses}
 use Rattle.model.specs.Always.{NineByCount, NumbersWithin, NumbersSmall, AlwaysShaped, AlwaysLong, fitsRule, allFit, NeverStray}
-use Rattle.model.proofs.Setup.{Accepted, accepts, accepted-code}
+use Rattle.model.proofs.Setup.{Accepted, accepts}
 use Rattle.model.proofs.Shaped.{in-range}
 use Rattle.model.proofs.Machine.{modeNumber, sentOf, rigOf, rests-same, waits-same}
-use Rattle.model.proofs.Lawful.{systemFrom, lawful, kept-past, kept-accepted}
+use Rattle.model.proofs.Lawful.{systemFrom, lawful, kept-past, kept-code}
 use Rattle.model.proofs.Plain.{wireOf, Plain, AllPlain}
 use Rattle.model.proofs.Tables.{at-put-same}
 use Rattle.model.proofs.Reached.{stepOf, Reached, Stepped, Steps, attempted-steps, stepped}
@@ -94,7 +94,10 @@ last-numbers b [] (m ∷ ms) l h =
     rw (le-leb (m .number) numberLimit (omega (arith, leb-true _ b (w .0))), last-numbers b [] ms l (w .1))
 last-numbers b (x ∷ xs) ys l h = last-numbers b xs ys l (and-split (leb (x .number) b) _ h .1)
 
-module _ (n : ℕ) (l : List ℕ) (a : Accepted n l) (past : (k : ℕ) → n < k → at 0 l k ≡ 0) (s : Stored) (r : Reached n l s) where
+module _ (n : ℕ) (l : List ℕ) (passed : setupCode n l ≡ 0) (past : (k : ℕ) → n < k → at 0 l k ≡ 0) (s : Stored) (r : Reached n l s) where
+  a : Accepted n l
+  a = accepts n l passed
+
   abbrev y : System
   y = systemFrom n l
 
@@ -179,7 +182,7 @@ module _ (n : ℕ) (l : List ℕ) (a : Accepted n l) (past : (k : ℕ) → n < k
   rig-shaped : rigShaped (t .rig) ≡ true
   unfolding rigShaped
   rig-shaped =
-      let code : setupCode (sizeOf t) (setsOf t) ≡ 0 = rw (r .size, r .sets) (accepted-code n l a) in
+      let code : setupCode (sizeOf t) (setsOf t) ≡ 0 = rw (r .size, r .sets) passed in
       rw (eq-eqb _ 0 code, le-leb (t .rig .accepted) eventLimit (r .bounded), all-of (placeShaped (t .rig)) siteLimit (λ k b c. place-shaped k))
 
   held-shaped : (k j : ℕ) → ownShaped (setsOf t) k j (heldOf t k j) ≡ true
@@ -329,10 +332,10 @@ module _ (n : ℕ) (l : List ℕ) (a : Accepted n l) (past : (k : ℕ) → n < k
 
 -- Said of every run
 
-always : (P : Stored → Type 0) → ((n : ℕ) (l : List ℕ) → Accepted n l → ((k : ℕ) → n < k → at 0 l k ≡ 0) → (s : Stored) → Reached n l s → P s) → Always P
+always : (P : Stored → Type 0) → ((n : ℕ) (l : List ℕ) → setupCode n l ≡ 0 → ((k : ℕ) → n < k → at 0 l k ≡ 0) → (s : Stored) → Reached n l s → P s) → Always P
 always P h n sets list es e =
     let a = accepts n sets e in
-    h n (keptSets n sets) (kept-accepted n sets a) (kept-past n sets a) _ (run-of n sets list es e)
+    h n (keptSets n sets) (kept-code n sets a ∙ e) (kept-past n sets a) _ (run-of n sets list es e)
 
 pub always-shaped : AlwaysShaped
 unfolding AlwaysShaped
@@ -342,7 +345,7 @@ pub shaped-with-losses : ShapedWithLosses
 unfolding ShapedWithLosses
 shaped-with-losses n sets list moves e =
     let a = accepts n sets e in
-    well-shaped n (keptSets n sets) (kept-accepted n sets a) (kept-past n sets a) _ (moves-of n sets list moves e)
+    well-shaped n (keptSets n sets) (kept-code n sets a ∙ e) (kept-past n sets a) _ (moves-of n sets list moves e)
 
 pub always-long : AlwaysLong
 unfolding AlwaysLong fresh

@@ -17,12 +17,12 @@ use Rattle.protocol.specs.System.{System, Lawful}
 use Rattle.model.specs.Tables.{at}
 use Rattle.basics.specs.Helpers.{any}
 use Rattle.model.specs.Sets.{member, meet, names}
-use Rattle.model.specs.Setup.{keptSets, allName, meetsEarlier, allMeet}
+use Rattle.model.specs.Setup.{keptSets, allName, meetsEarlier, allMeet, minimalEarlier, allMinimal, setupCode}
 use Rattle.model.specs.Priority.{key, comesBefore}
 use Rattle.basics.proofs.Basics.{by-bool, clash, and-split, all-at, all-same, any-at, any-of}
 use Rattle.model.proofs.Tables.{at-same}
 use Rattle.model.proofs.Sets.{no-bits, names-below}
-use Rattle.model.proofs.Setup.{Accepted}
+use Rattle.model.proofs.Setup.{Accepted, meeting-setup, accepted-meeting}
 
 -- document 01's priority, as the machine takes it
 abbrev pub before : Ask → ℕ → Ask → ℕ → Bool
@@ -169,3 +169,17 @@ module _ (n : ℕ) (sets : List ℕ) (a : Accepted n sets) where
         name = all-same (λ k. names n (at 0 (keptSets n sets) k)) (λ k. names n (at 0 sets k)) n (λ k b c. rw (kept-at k b c)) ∙ a .name;
         meet = all-same (meetsEarlier n (keptSets n sets)) (meetsEarlier n sets) n (λ k b c. rw (kept-at k b c) (all-same _ _ (pred k) (λ m d e. rw (kept-at m d (omega arith))))) ∙ a .meet;
       }
+
+  pub kept-minimal-at : (k : ℕ) → 1 ≤ k → k ≤ n → minimalEarlier n (keptSets n sets) k ≡ minimalEarlier n sets k
+  unfolding minimalEarlier
+  kept-minimal-at k b c = rw (kept-at k b c) (all-same _ _ (pred k) (λ m d e. rw (kept-at m d (omega arith))))
+
+  pub kept-minimal : allMinimal n (keptSets n sets) ≡ allMinimal n sets
+  unfolding allMinimal
+  kept-minimal = all-same _ _ n kept-minimal-at
+
+  -- "Entries past N are not read."
+  pub kept-code : setupCode n (keptSets n sets) ≡ setupCode n sets
+  kept-code =
+      meeting-setup n (keptSets n sets) (accepted-meeting n (keptSets n sets) kept-accepted)
+      ∙ rw kept-minimal (sym (meeting-setup n sets (accepted-meeting n sets a)))

@@ -1,16 +1,18 @@
 -- What setup's acceptance says of the sets.
 use Prim.Native.Nat.{ℕ, _≤_, _<_}
 use mathlib.Core.Path.{_≡_, refl}
+use mathlib.Core.Logic.{_⊎_, inl, inr}
 use mathlib.Core.Bool.{Bool, true, false, cond}
 use mathlib.Core.List.{List}
 use native.Mathlib.Omega.{arith}
-use lib.Dec.{leb}
+use lib.Dec.{eqb, leb}
 use lib.ListN.{length}
 use borrow.Author.Tests.{eqb-true, eq-eqb, leb-true, le-leb, lt-leb, not-false}
 use Rattle.rig.specs.Limits.{siteLimit}
-use Rattle.model.specs.Setup.{sizeListed, allName, allMeet, setupCode}
-use Rattle.basics.proofs.Basics.{and-split, and-second}
+use Rattle.model.specs.Setup.{sizeListed, allName, allMeet, allMinimal, meetingCode, setupCode}
+use Rattle.basics.proofs.Basics.{by-bool, and-split, and-second}
 
+-- what the codes 13, 1, 2 and 3 let pass: all that demand 3 needs of the sets
 pub record Accepted (n : ℕ) (sets : List ℕ) : Type 0 where
   pub long : length sets ≡ siteLimit
   pub low : 1 ≤ n
@@ -23,9 +25,35 @@ pub not-coded : (t : Bool) (c x : ℕ) → 1 ≤ c → cond t c x ≡ 0 → (t �
 not-coded true c x h e = absurd (omega arith)
 not-coded false c x h e = (refl, e)
 
-pub accepts : (n : ℕ) (sets : List ℕ) → setupCode n sets ≡ 0 → Accepted n sets
-unfolding setupCode sizeListed
-accepts n sets e =
+-- sets that setup accepts get none of these codes
+pub setup-meeting : (n : ℕ) (sets : List ℕ) → setupCode n sets ≡ 0 → meetingCode n sets ≡ 0
+unfolding setupCode
+setup-meeting n sets e =
+    by-bool (eqb (meetingCode n sets) 0)
+    (λ t. eqb-true _ 0 t)
+    (λ t. rw t at e)
+
+-- and none of them strictly contains another
+pub setup-minimal : (n : ℕ) (sets : List ℕ) → setupCode n sets ≡ 0 → allMinimal n sets ≡ true
+unfolding setupCode
+setup-minimal n sets e =
+    let x = rw (setup-meeting n sets e) at e in
+    not-false _ (not-coded _ 17 _ (omega arith) x .0)
+
+-- the other way round: sets that get none of these codes get 0, or 17 where one strictly contains another
+pub meeting-setup : (n : ℕ) (sets : List ℕ) → meetingCode n sets ≡ 0 → setupCode n sets ≡ cond (allMinimal n sets) 0 17
+unfolding setupCode
+meeting-setup n sets e = by-bool (allMinimal n sets) (λ t. rw (e, t)) (λ t. rw (e, t))
+
+pub zero-or-17 : (n : ℕ) (sets : List ℕ) → meetingCode n sets ≡ 0 → (setupCode n sets ≡ 0) ⊎ (setupCode n sets ≡ 17)
+zero-or-17 n sets e =
+    let w = meeting-setup n sets e in
+    by-bool (allMinimal n sets) (λ t. inl (rw t at w)) (λ t. inr (rw t at w))
+
+-- what a code of 0 says
+pub meeting : (n : ℕ) (sets : List ℕ) → meetingCode n sets ≡ 0 → Accepted n sets
+unfolding meetingCode sizeListed
+meeting n sets e =
     let a = not-coded _ 13 _ (omega arith) e in
     let b = not-coded _ 1 _ (omega arith) (a .1) in
     let c = not-coded _ 2 _ (omega arith) (b .1) in
@@ -39,6 +67,9 @@ accepts n sets e =
       meet = not-false _ (d .0);
     }
 
+pub accepts : (n : ℕ) (sets : List ℕ) → setupCode n sets ≡ 0 → Accepted n sets
+accepts n sets e = meeting n sets (setup-meeting n sets e)
+
 pub size-listed : (n : ℕ) → 1 ≤ n → n ≤ siteLimit → sizeListed n ≡ true
 unfolding sizeListed
 size-listed n a b = rw (le-leb 1 n a, le-leb n siteLimit b)
@@ -48,6 +79,6 @@ unfolding sizeListed
 size-too-large n h = and-second (leb 1 n) (leb n siteLimit) (lt-leb n siteLimit h)
 
 -- and the other way round
-pub accepted-code : (n : ℕ) (sets : List ℕ) → Accepted n sets → setupCode n sets ≡ 0
-unfolding setupCode
-accepted-code n sets a = rw (eq-eqb (length sets) siteLimit (a .long), size-listed n (a .low) (a .high), a .name, a .meet)
+pub accepted-meeting : (n : ℕ) (sets : List ℕ) → Accepted n sets → meetingCode n sets ≡ 0
+unfolding meetingCode
+accepted-meeting n sets a = rw (eq-eqb (length sets) siteLimit (a .long), size-listed n (a .low) (a .high), a .name, a .meet)

@@ -13,11 +13,11 @@ use Rattle.rig.specs.declared.Message.{Message}
 use Rattle.rig.specs.Messages.{REQUEST, REPLY, RELEASE, INQUIRE, FAIL, YIELD, TRANSFER}
 use Rattle.rig.specs.Limits.{siteLimit, messageLimit, eventLimit, numberLimit, SiteNumber}
 use Rattle.model.specs.Tables.{at, cell}
-use Rattle.model.specs.Setup.{setupCode}
+use Rattle.model.specs.Setup.{allMinimal, setupCode}
 use Rattle.model.specs.State.{Tables, Stored, underWay, sizeOf, setsOf, inRange, hasMember, siteOf, arbiterOf, heldOf, queuedOf}
 use Rattle.model.specs.Shape.{isNumber, setShaped, modeShaped, siteShaped, arbiterShaped, placeShaped, rigShaped, entryShaped, ownShaped, heirShaped, queuedShaped, everywhere, numberShaped, plainShaped, releaseShaped, aboutShaped, messageShaped, messagesShaped, tablesShaped, wellShaped}
 use Rattle.model.proofs.Tables.{at-past}
-use Rattle.model.proofs.Setup.{Accepted, accepts}
+use Rattle.model.proofs.Setup.{Accepted, accepts, setup-minimal}
 use Rattle.model.proofs.Lawful.{site-within, tie-within}
 
 -- by a message's kind
@@ -36,6 +36,7 @@ by-kind k c1 c2 c3 c4 c5 c6 c7 c0 =
 pub record Shaped (s : Stored) : Type 0 where
   pub few : s .count ≤ messageLimit
   pub sets : Accepted (sizeOf (s .tables)) (setsOf (s .tables))
+  pub minimal : allMinimal (sizeOf (s .tables)) (setsOf (s .tables)) ≡ true
   pub past : (k : ℕ) → sizeOf (s .tables) < k → at 0 (setsOf (s .tables)) k ≡ 0
   pub accepted : s .tables .rig .accepted ≤ eventLimit
   pub places : (k : ℕ) → SiteNumber k → placeShaped (s .tables .rig) k ≡ true
@@ -69,6 +70,7 @@ shaped s e =
     record {
       few = leb-true (s .count) messageLimit (a .0);
       sets = acc;
+      minimal = setup-minimal (sizeOf t) (setsOf t) (eqb-true _ 0 (d .0));
       past = none-past t acc places;
       accepted = leb-true (t .rig .accepted) eventLimit (f .0);
       places = places;

@@ -1,6 +1,7 @@
 -- Document 01, "What is turned down, by operation": "10 if the state is misshapen: a field outside its range or not 0 where the tables
 -- say 0, sets that setup would refuse, an entry for a non-member that isn't 0, or a holder, queued site, heir or message that ties a site
 -- to an arbiter outside its set (in a reply the arbiter is `about` and the site is `to`; a named heir is such a site too)."
+-- Request 2.6: "a state holding" sets of which one strictly contains another "counts as misshapen", as setup refuses them.
 -- Each part of the state has a test of its own, on what it reads, and `wellShaped` is all of them. Every test of a table goes over all its
 -- places, those past N too: a site past N has an empty set, so that no arbiter is its member. A tie of site k to arbiter j is in k's
 -- set if `hasMember sets k j`.

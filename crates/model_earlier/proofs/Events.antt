@@ -110,10 +110,10 @@ module _ (s : Stored) (w : wellShaped s ≡ true) (numberless : All Numberless (
 
 pub earlier-event : EarlierEvent
 unfolding EarlierEvent Earlier.event event Earlier.tested tested withoutNumbers
-earlier-event s e u =
+earlier-event s e m u =
     let numberless = numberless-lost (underWay s) u in
     by-bool (eqb (length (s .list)) messageLimit)
     (λ a. by-bool (wellShaped s)
-    (λ w. rw (a, shape-same s numberless, w) (played-same s w numberless e))
-    (λ w. rw (a, shape-same s numberless, w)))
+    (λ w. rw (a, shape-same s m numberless, w) (played-same s w numberless e))
+    (λ w. rw (a, shape-same s m numberless, w)))
     (λ a. rw a)

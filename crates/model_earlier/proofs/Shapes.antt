@@ -12,12 +12,13 @@ use Rattle.rig.specs.declared.Message.{Message}
 use Rattle.rig.specs.Limits.{siteLimit, messageLimit, numberLimit}
 use Rattle.rig.specs.Messages.{REQUEST, FAIL}
 use Rattle.model.specs.Tables.{at, cell}
+use Rattle.model.specs.Setup.{allMinimal, meetingCode, setupCode}
 use Rattle.model.specs.State.{Stored, underWay, sizeOf, setsOf, inRange, queuedOf, deskOf}
-use Rattle.model.specs.Shape.{isNumber, isGiven, numberShaped, messageShaped, messagesShaped, tablesShaped, wellShaped}
+use Rattle.model.specs.Shape.{isNumber, isGiven, numberShaped, messageShaped, messagesShaped, rigShaped, tablesShaped, wellShaped}
 use Rattle.model.proofs.Shaped.{shaped, queued-number}
 use Rattle.model.specs.Losses.{unnumbered}
 use Rattle.model_earlier.specs.Rules as Earlier
-use Rattle.model_earlier.specs.Claims.{EarlierShaped}
+use Rattle.model_earlier.specs.Claims.{Minimal, EarlierShaped}
 use Rattle.model_earlier.proofs.Lost.{Numberless, numberless-number, lost-numberless}
 use Rattle.model_earlier.proofs.Deliveries.{Bounded}
 
@@ -32,9 +33,15 @@ unfolding Earlier.messagesShaped messagesShaped Earlier.messageShaped messageSha
 messages-same n sets [] a = refl
 messages-same n sets (m ∷ ms) a = rw (number-same m (a .0), messages-same n sets ms (a .1))
 
-pub shape-same : (s : Stored) → All Numberless (underWay s) → Earlier.wellShaped s ≡ wellShaped s
-unfolding Earlier.wellShaped wellShaped
-shape-same s a = rw (messages-same (sizeOf (s .tables)) (setsOf (s .tables)) (underWay s) a)
+-- and so it is of sets of which none strictly contains another
+sets-same : (n : ℕ) (sets : List ℕ) → allMinimal n sets ≡ true → eqb (meetingCode n sets) 0 ≡ eqb (setupCode n sets) 0
+unfolding setupCode
+sets-same n sets m = by-bool (eqb (meetingCode n sets) 0) (λ e. rw (e, m)) (λ e. rw (e, e))
+
+pub shape-same : (s : Stored) → Minimal s → All Numberless (underWay s) → Earlier.wellShaped s ≡ wellShaped s
+unfolding Earlier.wellShaped wellShaped Earlier.tablesShaped tablesShaped Earlier.rigShaped rigShaped
+shape-same s m a =
+    rw (sets-same (sizeOf (s .tables)) (setsOf (s .tables)) m, messages-same (sizeOf (s .tables)) (setsOf (s .tables)) (underWay s) a)
 
 -- Where the version before lets a state pass, no fail has a number.
 
@@ -56,10 +63,10 @@ messages-numberless n sets (m ∷ ms) e =
 
 pub earlier-shaped : EarlierShaped
 unfolding EarlierShaped Earlier.wellShaped
-earlier-shaped s e =
+earlier-shaped s m e =
     let a = and-split (leb (s .count) messageLimit) _ e .1 in
-    let numberless = messages-numberless (sizeOf (s .tables)) (setsOf (s .tables)) (underWay s) (and-split (tablesShaped (s .tables)) _ a .1) in
-    (sym (shape-same s numberless) ∙ e, lost-numberless (underWay s) numberless)
+    let numberless = messages-numberless (sizeOf (s .tables)) (setsOf (s .tables)) (underWay s) (and-split (Earlier.tablesShaped (s .tables)) _ a .1) in
+    (sym (shape-same s m numberless) ∙ e, lost-numberless (underWay s) numberless)
 
 -- The numbers
 

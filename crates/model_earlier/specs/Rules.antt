@@ -1,19 +1,21 @@
--- Document 01 without request 2.3: what the version before says otherwise, each definition under its sentence, and what is made with it. All else
--- is that of `model`. A name that both versions have is this module's own here.
+-- Document 01 without requests 2.3 and 2.6: what the version before request 2.3 says otherwise, each definition under its sentence, and what is made with
+-- it. All else is that of `model`. A name that both versions have is this module's own here.
 use Prim.Native.Nat.{ℕ}
 use mathlib.Core.Bool.{Bool, true, not, _&&_, cond}
 use mathlib.Core.List.{List, [], _∷_, _++_}
 use mathlib.Core.Option.{Option, none, some}
 use lib.Dec.{eqb, leb}
 use lib.ListN.{length}
-use Rattle.basics.specs.Helpers.{first, withoutFirst}
+use Rattle.basics.specs.Helpers.{all, first, withoutFirst}
+use Rattle.rig.specs.declared.Rig.{Rig}
 use Rattle.rig.specs.declared.Desk.{Desk}
 use Rattle.rig.specs.declared.Message.{Message}
 use Rattle.rig.specs.declared.Event.{Event}
 use Rattle.rig.specs.declared.Event.the-variants.{Ask, Leave, Deliver}
-use Rattle.rig.specs.Limits.{messageLimit}
+use Rattle.rig.specs.Limits.{siteLimit, messageLimit, eventLimit}
 use Rattle.rig.specs.Messages.{REQUEST, REPLY, RELEASE, INQUIRE, FAIL, YIELD, TRANSFER, fail}
-use Rattle.model.specs.State.{Stored, underWay, sizeOf, setsOf, inRange, isResting, isInside, deskOf}
+use Rattle.model.specs.Setup.{meetingCode}
+use Rattle.model.specs.State.{Tables, Stored, underWay, sizeOf, setsOf, inRange, isResting, isInside, deskOf}
 use Rattle.model.specs.Desk.{Effect, effect, waits}
 use Rattle.model.specs.Priority.{comesBefore}
 use Rattle.model.specs.Ask.{asked}
@@ -21,7 +23,7 @@ use Rattle.model.specs.Leave.{left}
 use Rattle.model.specs.Arbiter.{holderOf, holderKey, siteKey, headOf, withQueued, transferOf, inquireOf, granted, clockRaised, formerTold, onRelease, onYield}
 use Rattle.model.specs.Site.{failedSet, yieldedUpTo, onReply, onInquire, onTransfer}
 use Rattle.model.specs.Deliver.{between}
-use Rattle.model.specs.Shape.{isGiven, aboutShaped, tablesShaped}
+use Rattle.model.specs.Shape.{isGiven, placeShaped, ownShaped, heirShaped, queuedShaped, everywhere, aboutShaped}
 use Rattle.model.specs.Event.{actor, sitesNamed, Attempt, refused, possible, Outcome, judged, Answer, answer, settled}
 
 -- "`number` is 0 in a fail"
@@ -80,6 +82,18 @@ messageShaped n sets m = inRange n (m .from) && (inRange n (m .to) && (numberSha
 unfoldable pub messagesShaped : ℕ → List ℕ → List Message → Bool
 messagesShaped n sets [] = true
 messagesShaped n sets (m ∷ ms) = messageShaped n sets m && messagesShaped n sets ms
+
+-- "sets that setup would refuse": setup without 17
+unfoldable pub rigShaped : Rig → Bool
+rigShaped g = eqb (meetingCode (g .size) (g .sets)) 0 && (leb (g .accepted) eventLimit && all (placeShaped g) siteLimit)
+
+unfoldable pub tablesShaped : Tables → Bool
+tablesShaped t =
+    rigShaped (t .rig)
+    && (everywhere (ownShaped (setsOf t)) (t .held)
+    && (everywhere (heirShaped (setsOf t)) (t .heir)
+    && (everywhere (ownShaped (setsOf t)) (t .inquired)
+    && everywhere (queuedShaped (setsOf t)) (t .queued))))
 
 -- the whole state; "Messages under way: at most 1,024"
 unfoldable pub wellShaped : Stored → Bool

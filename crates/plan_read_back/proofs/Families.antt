@@ -1,4 +1,4 @@
--- A printed family always sets up.
+-- A printed family read by the player.
 use borrow.Author.Tests.{eq-eqb}
 use Rattle.rig.specs.Limits.{siteLimit}
 use Rattle.family_rules.specs.Family.{sizeOf, setsOf}
@@ -8,7 +8,7 @@ use Rattle.families.specs.ByVotes.{votesCode}
 use Rattle.families.proofs.ByVotes.{votes-kept}
 use Rattle.plan_text.specs.Plan.{familyText, votesText}
 use Rattle.plan_read_back.specs.ReadBack.{FamilySetUp, VotesSetUp}
-use Rattle.plan_read_back.proofs.Texts.{set-up}
+use Rattle.plan_read_back.proofs.Texts.{read-behind, set-up}
 
 pub family-set-up : FamilySetUp
 unfolding familyText
@@ -17,4 +17,4 @@ family-set-up f h rest = rw h (set-up (sizeOf f) (setsOf f) (accepted f h) rest)
 pub votes-set-up : VotesSetUp
 unfolding votesText
 votes-set-up n votes c rest =
-    rw (eq-eqb (votesCode n votes siteLimit) 0 c) (set-up n (setsByVotes n votes) (votes-kept n votes siteLimit c .accepted) rest)
+    rw (eq-eqb (votesCode n votes siteLimit) 0 c) (read-behind n (setsByVotes n votes) (votes-kept n votes siteLimit c .passes) rest)

@@ -14,7 +14,7 @@ use Rattle.player_grammar.specs.Grammar.{meaningOf}
 use Rattle.player_text.specs.Player.{transcript, output}
 use Rattle.plan_lines.specs.Lines.{sitesBytes, setBytes}
 use Rattle.plan_text.specs.Plan.{familyText, votesText}
-use Rattle.plan_read_back.specs.Ready.{ready}
+use Rattle.plan_read_back.specs.Ready.{ready, playedBehind}
 
 -- the player's grammar reads a printed line `sites=` back as the same number, for every number from 0 to 999
 abbrev pub SitesRead : Type 0
@@ -28,8 +28,8 @@ SetRead = (set : ℕ) → names siteLimit set ≡ true → meaningOf (setBytes s
 abbrev pub FamilySetUp : Type 0
 FamilySetUp = (f : Family) → listed f ≡ true → (rest : List ℕ) → output (familyText f ++ rest) ≡ transcript (ready (sizeOf f) (setsOf f)) [] rest
 
--- and so does a family by votes
+-- a family by votes sets up where setup accepts it, and stops the player with 17 where one of its sets strictly contains another
 abbrev pub VotesSetUp : Type 0
 VotesSetUp =
     (n : ℕ) (votes : List ℕ) → votesCode n votes siteLimit ≡ 0
-    → (rest : List ℕ) → output (votesText n votes ++ rest) ≡ transcript (ready n (setsByVotes n votes)) [] rest
+    → (rest : List ℕ) → output (votesText n votes ++ rest) ≡ playedBehind n (setsByVotes n votes) rest

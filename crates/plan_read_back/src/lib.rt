@@ -10,7 +10,7 @@ pub fn lines_read() -> u8
     0
 }
 
-// A printed family always sets up, by its parameters or by votes.
+// A printed family by its parameters always sets up; one by votes does where setup accepts it, and else stops the player with 17.
 pub fn family_set_up() -> u8
     ensures { λ r. ⌜ (r ≡ 0) × FamilySetUp × VotesSetUp ⌝ }
 {

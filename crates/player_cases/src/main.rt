@@ -1,7 +1,7 @@
 // Stored cases of the player: plays each text that its arguments name, under a line with the text's name. It reads few bytes at a time, so
 // that each text is cut often, inside lines and at their ends.
-// The file `stdout` was not written by this program: the short answers are read off document 01, the three long ones (codes_full_list,
-// run_billiard_5, run_old_fail) come from outside/, the reading of document 01 in Rust. run_old_fail: an old fail reaches a new ask, request 2.3.
+// The file `stdout` was not written by this program: the short answers are read off document 01 and request 2.6, the four long ones (codes_full_list,
+// equal_sets, run_billiard_5, run_old_fail) come from outside/, the reading of both in Rust. run_old_fail: an old fail reaches a new ask, request 2.3.
 use libc::STDOUT_FILENO;
 
 // How many bytes are read at once.

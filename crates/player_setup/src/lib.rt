@@ -48,7 +48,7 @@ pub fn on_size(p: Player, page: &mut Page, m: Line) -> Said
     }
 }
 
-// All sets are there. The run begins, or ends with 2 or 3.
+// All sets are there. The run begins, or ends with 2, 3 or 17.
 fn all_given(p: Player, page: &mut Page, sets: [u64; Rig::SITES]) -> Said
     requires { ⌜ p .size ≤ siteLimit ⌝ }
     ensures { λ r. ⌜ BeforeEvents Sets (λ t. allGiven t sets) p (now (page .entry)) (now (page .exit)) r ⌝ }

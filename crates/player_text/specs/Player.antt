@@ -81,7 +81,7 @@ onSize p (some n) =
     (outcome [] (record { stage = Sets; line = counted (p .line); step = p .step; size = n; given = 0; sets = p .sets; state = p .state }))
     (stopped p 1 (counted (p .line)))
 
--- "Form is judged line by line; 2 and 3 after the last set, 2 first."
+-- "Form is judged line by line; 2 and 3 after the last set, 2 first.", and request 2.6: 17 "straight after 3"
 unfoldable pub allGiven : Text → List ℕ → Outcome
 allGiven p sets =
     cond (eqb (setupCode (p .size) sets) 0)

@@ -9,6 +9,7 @@ use Rattle.model.specs.State.{Stored}
 use Rattle.model.specs.Shape.{wellShaped}
 use Rattle.model.specs.Run.{fresh, Sound}
 use Rattle.model.specs.Losses.{lost, lostAll, Move, runWithLosses, SoundWithLosses, ShapedWithLosses}
+use Rattle.model.proofs.Shaped.{shaped}
 use Rattle.model.proofs.Reached.{moves-append}
 use Rattle.model.proofs.Theorem.{sound-with-losses}
 use Rattle.model.proofs.Always.{shaped-with-losses}
@@ -31,8 +32,8 @@ use Rattle.save_runs.proofs.Breaks.{kept-same, kept-long, Beside, besid
 
 pub earlier-read : EarlierRead
 unfolding EarlierRead EarlierShaped ReadBack WrittenBack FirstSpelled
-earlier-read s h e =
-    let (w, u) = earlier-shaped s e in
+earlier-read s h m e =
+    let (w, u) = earlier-shaped s m e in
     let text = first-spelled s w u in
     let read : readText (textIn firstSpelling s) ≡ some (kept s) = rw text (read-back s h w) in
     (read, written-back _ _ read .1)
@@ -54,11 +55,12 @@ module _ (start : Stored) (shapes : (moves : List Move) → wellShaped (runWithL
   after-covered : (a : EarlierAct) {s : Stored} → Covered s → Covered (earlierAfter s a)
   unfolding earlierAfter
   after-covered (plays e) {s} c =
-      let (more, same) = event-moves s e (c .unnumbered) in
+      let minimal = shaped s (covered-shaped c) .minimal in
+      let (more, same) = event-moves s e minimal (c .unnumbered) in
       record {
         moves = c .moves ++ more;
         beside = rw (same, moves-append start (c .moves) more) (moves-beside more (c .beside));
-        unnumbered = event-unnumbered s e (c .unnumbered);
+        unnumbered = event-unnumbered s e minimal (c .unnumbered);
       }
   after-covered pauses {s} c =
       let state = beside-state (c .beside) in

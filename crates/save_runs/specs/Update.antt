@@ -15,16 +15,17 @@ use Rattle.model.specs.Event.{answer}
 use Rattle.model.specs.Run.{fresh, Sound}
 use Rattle.model.specs.Losses.{Move, runWithLosses}
 use Rattle.model_earlier.specs.Rules as Earlier
+use Rattle.model_earlier.specs.Claims.{Minimal}
 use Rattle.save_text.specs.Text.{textIn, firstSpelling, textOf}
 use Rattle.save_text.specs.Reading.{readText}
 use Rattle.save_text.specs.Calls.{readInto}
 use Rattle.save_text.specs.Claims.{IsState, kept}
 use Rattle.save_runs.specs.Breaks.{Act, runWithBreaks, SameState}
 
--- Every text of the version before is read, and written back as it is.
+-- Every text of the version before is read, and written back as it is; but for sets of which one strictly contains another, which request 2.6 rejects.
 unfoldable pub EarlierRead : Type 0
 EarlierRead =
-    (s : Stored) → IsState s → Earlier.wellShaped s ≡ true →
+    (s : Stored) → IsState s → Minimal s → Earlier.wellShaped s ≡ true →
     (readText (textIn firstSpelling s) ≡ some (kept s)) × (textOf (kept s) ≡ textIn firstSpelling s)
 
 -- What happens to a rig in the version before: an event, or a break, from which its state goes on with 0 past its messages. That it read its own

@@ -10,8 +10,8 @@ pub fn sound_with_breaks() -> u8
     0
 }
 
-// Every text of the version before request 2.3 is read, and written back as it is. Where it was saved in a run, with breaks, demand 3 holds of every run
-// from there.
+// Every text of the version before request 2.3 is read, and written back as it is, but for sets that setup now refuses with 17. Where it was saved in a
+// run, with breaks, demand 3 holds of every run from there.
 pub fn update_sound() -> u8
     ensures { λ r. ⌜ (r ≡ 0) × EarlierRead × UpdateSound ⌝ }
 {

@@ -19,6 +19,7 @@ fn main() {
     print_long();
     print_longer_words();
     print_old_fails();
+    print_nested();
 }
 
 // Each command by the argument that is its first word, and how many words it has, its own name among them; its input is named by the argument behind them.
@@ -109,6 +110,13 @@ fn print_old_fails() {
     print_case(137, 3);
     print_case(140, 3);
     print_case(143, 3);
+}
+
+// Request 2.6: a text with a set that strictly contains an earlier one, and a saved text with such sets.
+fn print_nested() {
+    print_case(146, 2);
+    print_case(148, 3);
+    print_case(151, 3);
 }
 
 // A case whose input is read few bytes at a time.

@@ -6,7 +6,7 @@
 use std::io::{self, Read, Write};
 use std::process::ExitCode;
 
-use outside::faults::{play_with_fault, FAULTS};
+use outside::faults::{faults, play_with_fault};
 use outside::model::play;
 
 fn main() -> ExitCode {
@@ -20,7 +20,7 @@ fn main() -> ExitCode {
         Ok(name) => match play_with_fault(&name, &text) {
             Some(output) => output,
             None => {
-                let names: Vec<&str> = FAULTS.iter().map(|(name, _)| *name).collect();
+                let names: Vec<&str> = faults().map(|(name, _)| name).collect();
                 eprintln!("no such fault: {name}\nthere are: {}", names.join(", "));
                 return ExitCode::from(2);
             }

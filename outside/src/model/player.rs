@@ -3,7 +3,7 @@
 use std::io::Write;
 
 use super::grammar::{event_line, set_line, sites_line, Event, Line, Lines};
-use super::setup::{judge_count, judge_sets};
+use super::setup::{judge_count, judge_sets_by, set_of, Judgement};
 use super::{Refusal, Rig, Site, Version};
 
 /// Plays a text and gives all that is printed.
@@ -29,6 +29,21 @@ pub fn play_with(
     output
 }
 
+/// Plays a text with another judgement of its sets and gives all that is
+/// printed, and the state after its last event if nothing stops it.
+pub(crate) fn play_judged(text: &[u8], judge: impl Fn(&[u64]) -> Judgement) -> (Vec<u8>, Option<Rig>) {
+    let mut lines = Lines::new(text);
+    let mut output = Vec::new();
+    let outcome = read_rig(&mut lines, judge).and_then(|mut rig| {
+        play_events(&mut lines, &mut rig, &mut Rig::apply, &mut output)?;
+        Ok(rig)
+    });
+    if let Err(stop) = &outcome {
+        writeln!(output, "{stop}").expect("a Vec takes all");
+    }
+    (output, outcome.ok())
+}
+
 /// Plays a text and gives the state after its last event.
 pub fn last_state(text: &[u8]) -> Result<Rig, Stop> {
     last_state_by(Version::Present, text)
@@ -47,7 +62,7 @@ fn play_text(
     output: &mut Vec<u8>,
 ) -> Result<Rig, Stop> {
     let mut lines = Lines::new(text);
-    let mut rig = read_rig(&mut lines)?.by(version);
+    let mut rig = read_rig(&mut lines, |sets| judge_sets_by(version, sets))?.by(version);
     play_events(&mut lines, &mut rig, step, output)?;
     Ok(rig)
 }
@@ -98,14 +113,14 @@ fn malformed(lines: &Lines) -> Stop {
 
 /// Reads `sites=` and the sets. The count is judged before a later line is
 /// read, the sets after the last of them.
-fn read_rig(lines: &mut Lines) -> Result<Rig, Stop> {
+fn read_rig(lines: &mut Lines, judge: impl Fn(&[u64]) -> Judgement) -> Result<Rig, Stop> {
     let n = usize::from(require(lines, sites_line)?);
     judge_count(n).map_err(|refusal| Stop { refusal, line: 1 })?;
     let lists: Vec<Vec<Site>> = (0..n).map(|_| require(lines, set_line)).collect::<Result<_, _>>()?;
-    let sets: Vec<u64> = lists.iter().map(|list| super::setup::set_of(list)).collect();
+    let sets: Vec<u64> = lists.iter().map(|list| set_of(list)).collect();
     // The set of site s stands on line s + 1.
-    judge_sets(&sets).map_err(|(refusal, site)| Stop { refusal, line: site + 1 })?;
-    Ok(Rig::from_lists(&lists).expect("the sets were judged"))
+    judge(&sets).map_err(|(refusal, site)| Stop { refusal, line: site + 1 })?;
+    Ok(Rig::fresh(&lists))
 }
 
 /// Plays events until the input ends or a line is malformed.
@@ -226,6 +241,25 @@ step=13 code=7 inside=0 waiting=0 flying=0
         assert_eq!(played("sites=3\nset=4\nset=2\nset=4\n"), "stop=2 line=2\n");
         assert_eq!(played("sites=3\nset=1,2\nset=2\nset=1\n"), "stop=3 line=4\n");
         assert_eq!(played("sites=3\nset=1\nset=2\nset=3\n"), "stop=3 line=3\n");
+    }
+
+    #[test]
+    fn then_17() {
+        assert_eq!(played("sites=2\nset=1,2\nset=1\n"), "stop=17 line=3\n");
+        assert_eq!(played("sites=2\nset=1\nset=1,2\n"), "stop=17 line=3\n");
+        assert_eq!(played("sites=2\nset=1\nset=1,2\nrubbish"), "stop=17 line=3\n");
+        assert_eq!(played("sites=2\nset=1,2\nset=1,2\n"), "");
+        assert_eq!(played("sites=3\nset=1,2\nset=1,2\nset=1\n"), "stop=17 line=4\n");
+        assert_eq!(played("sites=3\nset=1,2\nset=1\nset=1\n"), "stop=17 line=3\n");
+        assert_eq!(played("sites=3\nset=1,2\nset=1\nset=1,\n"), "stop=11 line=4\n");
+        assert_eq!(played("sites=3\nset=1,2\nset=1\n"), "stop=11 line=4\n");
+        assert_eq!(played("sites=3\nset=1,2\nset=1\nset=1,4\n"), "stop=2 line=4\n");
+        assert_eq!(played("sites=3\nset=1,2\nset=1\nset=2,3\n"), "stop=3 line=4\n");
+        let (nested, equal) = ("sites=2\nset=1\nset=1,2\nask=1\n", "sites=2\nset=2\nset=2\nask=1\n");
+        let line = "step=1 code=0 inside=0 waiting=1 flying=1\n";
+        assert_eq!(played(nested), "stop=17 line=3\n");
+        assert_eq!(played(equal), line);
+        assert_eq!(play_by(Version::Earlier, nested.as_bytes()), line.as_bytes());
     }
 
     #[test]

@@ -36,22 +36,30 @@ pub struct Change {
 }
 
 impl Rig {
-    /// A fresh rig from a buffer of sets, or setup's refusal.
-    pub fn setup(n: usize, buffer: &[u64]) -> Result<Rig, Refusal> {
-        setup::judge(n, buffer)?;
-        let mut members = vec![Vec::new()];
-        members.extend(buffer[..n].iter().map(|&set| setup::members(set)));
-        let desks = vec![Desk::fresh(n); n + 1];
-        Ok(Rig { members, desks, under_way: Vec::new(), accepted: 0, version: Version::Present })
+    /// A fresh rig from a buffer of sets, or setup's refusal, in a version.
+    pub fn setup(version: Version, n: usize, buffer: &[u64]) -> Result<Rig, Refusal> {
+        setup::judge_by(version, n, buffer)?;
+        let lists: Vec<Vec<Site>> = buffer[..n].iter().map(|&set| setup::members(set)).collect();
+        Ok(Rig::fresh(&lists).by(version))
     }
 
     /// A fresh rig from lists of members, or setup's refusal.
     pub fn from_lists(lists: &[Vec<Site>]) -> Result<Rig, Refusal> {
+        Rig::from_lists_by(Version::Present, lists)
+    }
+
+    /// The same in a version.
+    pub fn from_lists_by(version: Version, lists: &[Vec<Site>]) -> Result<Rig, Refusal> {
         let mut buffer = [0; MOST_SITES];
         for (entry, list) in buffer.iter_mut().zip(lists) {
             *entry = setup::set_of(list);
         }
-        Rig::setup(lists.len(), &buffer)
+        Rig::setup(version, lists.len(), &buffer)
+    }
+
+    /// A fresh rig from lists of members, judged by no one.
+    pub(crate) fn fresh(lists: &[Vec<Site>]) -> Rig {
+        Rig::of_parts(lists, vec![Desk::fresh(lists.len()); lists.len()], Vec::new(), 0)
     }
 
     /// A rig put together from its parts, site 1 first, and judged by no one.

@@ -1,6 +1,6 @@
 //! Which states are misshapen (code 10).
 
-use super::setup::{judge_count, judge_sets, set_of};
+use super::setup::{judge_count, judge_sets_by, set_of, Judgement};
 use super::{
     Body, Claim, Message, Mode, Rig, Site, Tie, Version, LARGEST_NUMBER, MOST_ACCEPTED, MOST_SITES,
     MOST_UNDER_WAY,
@@ -23,12 +23,15 @@ impl Rig {
     }
 
     fn sets_pass(&self) -> bool {
+        self.sets_pass_by(|sets| judge_sets_by(self.version(), sets))
+    }
+
+    /// Whether the sets pass with another judgement of those of a rig.
+    pub(crate) fn sets_pass_by(&self, judge: impl Fn(&[u64]) -> Judgement) -> bool {
         let n = usize::from(self.size());
         let inside = |list: &[Site]| list.iter().all(|&site| usize::from(site) <= MOST_SITES);
         let sets: Vec<u64> = self.sites().map(|site| set_of(self.members(site))).collect();
-        judge_count(n).is_ok()
-            && self.sites().all(|site| inside(self.members(site)))
-            && judge_sets(&sets).is_ok()
+        judge_count(n).is_ok() && self.sites().all(|site| inside(self.members(site))) && judge(&sets).is_ok()
     }
 
     /// Whether the arbiter is in the site's set. Neither may be there at all.
@@ -91,9 +94,9 @@ mod tests {
     use super::*;
     use crate::model::{Desk, Event, Refusal};
 
-    /// Sites 1 and 2 have {1}, site 3 has {1, 2}.
+    /// Sites 1 and 2 have {1, 3}, site 3 has {1, 2}.
     fn rig() -> Rig {
-        Rig::from_lists(&[vec![1], vec![1], vec![1, 2]]).unwrap()
+        Rig::from_lists(&[vec![1, 3], vec![1, 3], vec![1, 2]]).unwrap()
     }
 
     fn changed(change: impl Fn(&mut Rig)) -> bool {
@@ -152,8 +155,8 @@ mod tests {
         let sites: Vec<Site> = (0..=4).collect();
         for &from in &sites {
             for &to in &sites {
-                let asks = [(1, 1), (2, 1), (3, 1), (3, 2)].contains(&(from, to));
-                let answers = [(1, 1), (1, 2), (1, 3), (2, 3)].contains(&(from, to));
+                let has = |site, arbiter| matches!((site, arbiter), (1..=3, 1) | (3, 2) | (1..=2, 3));
+                let (asks, answers) = (has(from, to), has(to, from));
                 let there = (1..=3).contains(&from) && (1..=3).contains(&to);
                 assert_eq!(shaped(from, to, Body::Request { seq: 1 }), asks);
                 assert_eq!(shaped(from, to, Body::Yield { grant: 1 }), asks);
@@ -162,14 +165,13 @@ mod tests {
                 assert_eq!(shaped(from, to, Body::Fail { seq: None }), answers);
                 assert_eq!(shaped(from, to, Body::Fail { seq: Some(1) }), answers);
                 for &about in &sites {
-                    let heir = |arbiter| matches!((arbiter, about), (1, 1..=3) | (2, 3));
+                    let heir = |arbiter| has(about, arbiter);
                     let release = Body::Release { heir: Some(about), grant: 1 };
                     assert_eq!(shaped(from, to, release), asks && heir(to));
                     let transfer = Body::Transfer { heir: about, grant: 1 };
                     assert_eq!(shaped(from, to, transfer), answers && heir(from));
                     let reply = Body::Reply { arbiter: about, grant: 1 };
-                    let granted = matches!((to, about), (1..=3, 1) | (3, 2));
-                    assert_eq!(shaped(from, to, reply), there && granted);
+                    assert_eq!(shaped(from, to, reply), there && has(to, about));
                 }
             }
         }
@@ -187,16 +189,34 @@ mod tests {
 
     #[test]
     fn the_sets_are_those_that_setup_passes() {
-        let rig = |lists: &[Vec<Site>]| {
-            Rig::of_parts(lists, vec![Desk::fresh(lists.len()); lists.len()], Vec::new(), 0)
-        };
-        assert!(!rig(&[vec![1], vec![1]]).is_misshapen());
-        assert!(rig(&[vec![1], vec![2]]).is_misshapen());
-        assert!(rig(&[vec![1], vec![]]).is_misshapen());
-        assert!(rig(&[vec![1], vec![1, 3]]).is_misshapen());
-        assert!(rig(&[]).is_misshapen());
-        assert!(rig(&vec![vec![1]; 32]).is_misshapen());
-        assert!(!rig(&vec![vec![1]; 31]).is_misshapen());
+        assert!(!Rig::fresh(&[vec![1], vec![1]]).is_misshapen());
+        assert!(Rig::fresh(&[vec![1], vec![2]]).is_misshapen());
+        assert!(Rig::fresh(&[vec![1], vec![]]).is_misshapen());
+        assert!(Rig::fresh(&[vec![1], vec![1, 3]]).is_misshapen());
+        assert!(Rig::fresh(&[]).is_misshapen());
+        assert!(Rig::fresh(&vec![vec![1]; 32]).is_misshapen());
+        assert!(!Rig::fresh(&vec![vec![1]; 31]).is_misshapen());
+    }
+
+    /// "a state holding them counts as misshapen": 10 for every event.
+    #[test]
+    fn sets_inside_others_are_misshapen() {
+        for lists in [
+            &[vec![1], vec![1, 2]][..],
+            &[vec![1, 2], vec![1]],
+            &[vec![1, 2], vec![1, 3], vec![1, 2, 3]],
+            &[vec![2, 3], vec![2, 3], vec![3]],
+        ] {
+            let mut rig = Rig::fresh(lists);
+            assert!(rig.is_misshapen(), "{lists:?}");
+            for event in [Event::Ask(1), Event::Leave(1), Event::Move(1, 1), Event::Ask(99)] {
+                assert_eq!(rig.apply_judged(event), Err(Refusal::Misshapen));
+            }
+            assert_eq!(rig, Rig::fresh(lists));
+            assert!(!rig.by(Version::Earlier).is_misshapen(), "the version before has no such test");
+        }
+        assert!(!Rig::fresh(&[vec![2, 3], vec![2, 3], vec![2, 3]]).is_misshapen());
+        assert!(!Rig::fresh(&[vec![2, 3], vec![2, 3], vec![1, 3]]).is_misshapen());
     }
 
     /// A holder with grant number 0 is well shaped, but what the arbiter then
@@ -207,7 +227,7 @@ mod tests {
         rig.desk_mut(1).arbiter.holder = claim(5, 1);
         rig.apply_judged(Event::Ask(2)).unwrap();
         rig.apply_judged(Event::Move(2, 1)).unwrap();
-        assert_eq!(rig.under_way()[0].body, Body::Transfer { heir: 2, grant: 0 });
+        assert_eq!(rig.under_way()[1].body, Body::Transfer { heir: 2, grant: 0 });
         assert!(rig.is_misshapen());
         assert_eq!(rig.apply_judged(Event::Ask(99)), Err(Refusal::Misshapen));
     }

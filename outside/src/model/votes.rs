@@ -179,7 +179,7 @@ mod tests {
             let n = votes.len();
             let lists = lists(&votes).unwrap();
             let sets: Vec<u64> = lists.iter().map(|list| set_of(list)).collect();
-            assert_eq!(setup::judge_sets(&sets), Ok(()), "{votes:?}");
+            assert_eq!(setup::judge_meeting_sets(&sets), Ok(()), "{votes:?}");
             let sum: u64 = votes.iter().sum();
             let of_run =
                 |start: usize, length: usize| -> u64 { votes.iter().cycle().skip(start).take(length).sum() };
@@ -190,5 +190,33 @@ mod tests {
                 assert_eq!(set, members.sum::<u64>(), "{votes:?}, site {}", start + 1);
             }
         }
+    }
+
+    /// "A voting family with such a pair is made as before, but setup rejects
+    /// it." A run ends no earlier than the one from the site before; if it is
+    /// shorter, it ends with it and lies inside it. So setup passes the sets
+    /// just if all of them are equally large.
+    #[test]
+    fn setup_passes_runs_that_are_equally_long() {
+        let mut random = Random::new(6);
+        let (mut passed, mut nested) = (0, 0);
+        for _ in 0..3_000 {
+            let votes = any_votes(&mut random);
+            let mut buffer = [7; MOST_SITES];
+            let mut sets = [u64::MAX; MOST_SITES];
+            buffer[..votes.len()].copy_from_slice(&votes);
+            fill(votes.len(), &buffer, &mut sets).unwrap();
+            let lists = lists(&votes).unwrap();
+            let expected = if lists.iter().all(|list| list.len() == lists[0].len()) {
+                passed += 1;
+                Ok(())
+            } else {
+                nested += 1;
+                Err(Refusal::NestedSets)
+            };
+            assert_eq!(setup::judge(votes.len(), &sets), expected, "{votes:?}");
+            assert_eq!(setup::judge_meeting(votes.len(), &sets), Ok(()), "{votes:?}");
+        }
+        assert!(passed > 300 && nested > 300, "{passed} passed, {nested} nested");
     }
 }

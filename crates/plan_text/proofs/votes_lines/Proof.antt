@@ -1,6 +1,6 @@
--- `votes_lines`: the lines of what `generate_by_votes` answers; that N is in range is what setup's acceptance says.
+-- `votes_lines`: the lines of what `generate_by_votes` answers; that N is in range is among what it says of the sets.
 use borrow.Author.Needs.{needs}
-use Rattle.model.proofs.Setup.{accepts}
+use Rattle.model.proofs.Setup.{meeting}
 use Rattle.plan_text.proofs.Made.{votes-text, refused-votes}
 use Rattle.plan_text.proofs.votes_lines.Statement.{statement}
 use Rattle.plan_text.proofs.votes_lines.Tie as tie
@@ -26,7 +26,7 @@ returns c =
 setup-lines-requires : tie.Need-setup-lines-requires
 setup-lines-requires c κs =
     let e = c .before .before .before .before .generate-by-votes .ensures in
-    accepts _ _ (e .1 (c .before .before .if1 .left) .accepted) .high
+    meeting _ _ (e .1 (c .before .before .if1 .left) .passes) .high
 
 returns-2 : tie.Need-returns-2
 returns-2 c =

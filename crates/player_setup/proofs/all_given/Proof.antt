@@ -1,4 +1,4 @@
--- `all_given`: 2, 3, or the first event.
+-- `all_given`: 2, 3, 17, or the first event.
 use mathlib.Core.Path.{_≡_, sym, ap, _∙_}
 use borrow.Author.Tests.{ne-eqb}
 use Rattle.model.specs.Setup.{setupCode}

@@ -1,15 +1,16 @@
--- `fault_line`: the first faulty set where there is one, else the first that misses an earlier one.
-use mathlib.Core.Path.{sym, _∙_}
+-- `fault_line`: the first faulty set where there is one, else the first that misses an earlier one, else the first that is nested with one.
+use mathlib.Core.Path.{_≡_, sym, _∙_}
+use mathlib.Core.Bool.{true}
 use native.Mathlib.Omega.{arith}
 use borrow.Author.Tests.{eq-eqb, ne-eqb}
 use Rattle.basics.proofs.Basics.{lowest-within}
 use Rattle.setup_faults.specs.Faults.{firstBreaking, faultLine}
-use Rattle.setup_faults.proofs.Rules.{all-name}
+use Rattle.setup_faults.proofs.Rules.{all-name, all-meet}
 use Rattle.setup_faults.proofs.fault_line.Statement.{statement}
 use Rattle.setup_faults.proofs.fault_line.Tie as tie
 
 first-breaking-requires : tie.Need-first-breaking-requires
-first-breaking-requires c κs = let p = c .before .pre in (p .0, p .1, λ e. cc)
+first-breaking-requires c κs = let p = c .before .pre in (p .0, p .1, tt)
 
 add-result : tie.Need-add-result
 unfolding firstBreaking
@@ -24,16 +25,31 @@ returns c =
 first-breaking-requires-2 : tie.Need-first-breaking-requires-2
 first-breaking-requires-2 c κs =
     let p = c .before .before .before .pre in
-    (p .0, p .1, λ _. all-name _ _ ∙ eq-eqb _ 0 (sym (c .before .first-breaking .ensures) ∙ c .if1 .left))
+    (p .0, p .1, all-name _ _ ∙ eq-eqb _ 0 (sym (c .before .first-breaking .ensures) ∙ c .if1 .left))
 
 add-result-2 : tie.Need-add-result-2
 unfolding firstBreaking
-add-result-2 c = omega (arith, lowest-within _ _ _ (c .first-breaking2 .ensures))
+add-result-2 c = omega (arith, lowest-within _ _ _ (c .before .first-breaking2 .ensures))
 
 returns-2 : tie.Need-returns-2
 unfolding faultLine
 returns-2 c =
-    rw (all-name _ _ ∙ eq-eqb _ 0 (sym (c .before .before .first-breaking .ensures) ∙ c .before .if1 .left), c .first-breaking2 .ensures)
+    let e = c .before .first-breaking2 .ensures in
+    rw (all-name _ _ ∙ eq-eqb _ 0 (sym (c .before .before .before .first-breaking .ensures) ∙ c .before .before .if1 .left), all-meet _ _ ∙ ne-eqb _ 0 (rw e at (c .if2 .taken)), e)
+
+first-breaking-requires-3 : tie.Need-first-breaking-requires-3
+first-breaking-requires-3 c κs =
+    let p = c .before .before .before .before .before .pre in
+    (p .0, p .1, all-name _ _ ∙ eq-eqb _ 0 (sym (c .before .before .before .first-breaking .ensures) ∙ c .before .before .if1 .left))
+
+add-result-3 : tie.Need-add-result-3
+unfolding firstBreaking
+add-result-3 c = omega (arith, lowest-within _ _ _ (c .first-breaking3 .ensures))
+
+returns-3 : tie.Need-returns-3
+unfolding faultLine
+returns-3 c =
+    rw (all-name _ _ ∙ eq-eqb _ 0 (sym (c .before .before .before .before .first-breaking .ensures) ∙ c .before .before .before .if1 .left), all-meet _ _ ∙ eq-eqb _ 0 (sym (c .before .before .first-breaking2 .ensures) ∙ c .before .if2 .left), c .first-breaking3 .ensures)
 
 pub fault-line-spec : {M : Type 1} → statement M
 fault-line-spec =
@@ -44,4 +60,7 @@ fault-line-spec =
     returns
     first-breaking-requires-2
     add-result-2
-    returns-2)
+    returns-2
+    first-breaking-requires-3
+    add-result-3
+    returns-3)

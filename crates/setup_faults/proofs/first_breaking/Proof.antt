@@ -8,7 +8,8 @@ use native.Mathlib.Numerals.{add-one}
 use borrow.Author.Needs.{needs}
 use Rattle.basics.specs.Helpers.{lowest}
 use Rattle.basics.proofs.Basics.{lowest-more, lowest-found}
-use Rattle.setup_faults.specs.Faults.{keepsRule, firstBreaking}
+use Rattle.setup_rules.specs.Rules.{keepsRule}
+use Rattle.setup_faults.specs.Faults.{firstBreaking}
 use Rattle.setup_faults.proofs.first_breaking.Statement.{statement}
 use Rattle.setup_faults.proofs.first_breaking.Tie as tie
 

@@ -1,59 +1,37 @@
--- `judge`: the four tests in their order.
+-- `judge`: the code of sets that do not meet, else 17 or 0.
 use mathlib.Core.Path.{sym, _∙_}
-use native.Mathlib.Omega.{arith}
+use borrow.Author.Needs.{needs}
 use borrow.Author.Tests.{eq-eqb, ne-eqb}
-use Rattle.model.specs.Setup.{sizeListed, setupCode}
-use Rattle.model.proofs.Setup.{size-listed, size-too-large}
-use Rattle.setup_faults.proofs.Rules.{all-name, all-meet}
+use Rattle.model.specs.Setup.{setupCode}
+use Rattle.model.proofs.Setup.{meeting, meeting-setup}
+use Rattle.setup_faults.proofs.Rules.{all-minimal}
 use Rattle.setup_faults.proofs.judge.Statement.{statement}
 use Rattle.setup_faults.proofs.judge.Tie as tie
 
+judge-meeting-requires : tie.Need-judge-meeting-requires
+judge-meeting-requires c κs = search needs
+
 returns : tie.Need-returns
-unfolding setupCode sizeListed
-returns c =
-    rw (ne-eqb _ _ (c .if1 .taken))
-
-returns-2 : tie.Need-returns-2
-unfolding setupCode sizeListed
-returns-2 c =
-    rw (eq-eqb _ _ (c .before .if1 .left), c .if2 .taken)
-
-returns-3 : tie.Need-returns-3
 unfolding setupCode
-returns-3 c =
-    rw (eq-eqb _ _ (c .before .before .if1 .left), size-too-large _ (c .if3 .taken))
+returns c =
+    let e = c .before .judge-meeting .ensures in
+    rw (e, ne-eqb _ 0 (rw e at (c .if1 .taken)))
 
 first-breaking-requires : tie.Need-first-breaking-requires
-first-breaking-requires c κs = (omega arith, c .before .before .if1 .left, λ e. cc)
+first-breaking-requires c κs =
+    let a = meeting _ _ (sym (c .before .judge-meeting .ensures) ∙ c .if1 .left) in
+    (a .high, a .long, a .name)
 
-returns-4 : tie.Need-returns-4
-unfolding setupCode
-returns-4 c =
-    rw (eq-eqb _ _ (c .before .before .before .before .if1 .left), size-listed (c .before .before .before .before .before .before .args .size) (omega arith) (omega arith), all-name _ _ ∙ ne-eqb _ 0 (rw (c .before .first-breaking .ensures) at (c .if4 .taken)))
+returns-2 : tie.Need-returns-2
+returns-2 c =
+    let z = sym (c .before .before .before .judge-meeting .ensures) ∙ c .before .before .if1 .left in
+    rw (meeting-setup _ _ z, all-minimal _ _ ∙ ne-eqb _ 0 (rw (c .before .first-breaking .ensures) at (c .if2 .taken)))
 
-first-breaking-requires-2 : tie.Need-first-breaking-requires-2
-first-breaking-requires-2 c κs =
-    (omega arith, c .before .before .before .before .if1 .left, λ _. all-name _ _ ∙ eq-eqb _ 0 (sym (c .before .first-breaking .ensures) ∙ c .if4 .left))
-
-returns-5 : tie.Need-returns-5
-unfolding setupCode
-returns-5 c =
-    rw (eq-eqb _ _ (c .before .before .before .before .before .before .if1 .left), size-listed (c .before .before .before .before .before .before .before .before .args .size) (omega arith) (omega arith), all-name _ _ ∙ eq-eqb _ 0 (sym (c .before .before .before .first-breaking .ensures) ∙ c .before .before .if4 .left), all-meet _ _ ∙ ne-eqb _ 0 (rw (c .before .first-breaking2 .ensures) at (c .if5 .taken)))
-
-returns-6 : tie.Need-returns-6
-unfolding setupCode
-returns-6 c =
-    rw (eq-eqb _ _ (c .before .before .before .before .before .before .if1 .left), size-listed (c .before .before .before .before .before .before .before .before .args .size) (omega arith) (omega arith), all-name _ _ ∙ eq-eqb _ 0 (sym (c .before .before .before .first-breaking .ensures) ∙ c .before .before .if4 .left), all-meet _ _ ∙ eq-eqb _ 0 (sym (c .before .first-breaking2 .ensures) ∙ c .if5 .left))
+returns-3 : tie.Need-returns-3
+returns-3 c =
+    let z = sym (c .before .before .before .judge-meeting .ensures) ∙ c .before .before .if1 .left in
+    rw (meeting-setup _ _ z, all-minimal _ _ ∙ eq-eqb _ 0 (sym (c .before .first-breaking .ensures) ∙ c .if2 .left)) (c .before .before .if1 .left)
 
 pub judge-spec : {M : Type 1} → statement M
 judge-spec =
-    tie.close
-    (tie.spec
-    returns
-    returns-2
-    returns-3
-    first-breaking-requires
-    returns-4
-    first-breaking-requires-2
-    returns-5
-    returns-6)
+    tie.close (tie.spec judge-meeting-requires returns first-breaking-requires returns-2 returns-3)

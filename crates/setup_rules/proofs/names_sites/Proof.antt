@@ -2,8 +2,8 @@
 use borrow.Author.Needs.{needs}
 use mathlib.Core.Path.{sym}
 use Rattle.model.proofs.Sets.{names-shift, names-empty}
-use Rattle.setup_faults.proofs.names_sites.Statement.{statement}
-use Rattle.setup_faults.proofs.names_sites.Tie as tie
+use Rattle.setup_rules.proofs.names_sites.Statement.{statement}
+use Rattle.setup_rules.proofs.names_sites.Tie as tie
 
 shr-result : tie.Need-shr-result
 shr-result c = search needs

@@ -1,0 +1,73 @@
+// What setup asks of each request set: three rules, and whether a set keeps one.
+ghost use mathlib.Core.Path.{_≡_};
+ghost use mathlib.Core.Bool.{true};
+ghost use Prim.Native.Nat.{ℕ, _<_, _≤_, _+_, _^_};
+ghost use lib.ListN.{length};
+ghost use Rattle.rig.specs.Limits.{siteLimit};
+ghost use Rattle.model.specs.Sets.{names, nested};
+ghost use Rattle.model.specs.Setup.{allName};
+ghost use Rattle.setup_rules.specs.Rules.{pairKeeps, earlierKeep, keepsRule, Comparable};
+
+// To name sites 1 to `size` and no other, to share a site with each earlier set, and to be minimal: neither to contain strictly an earlier set, nor
+// to be contained strictly in one.
+pub enum Rule {
+    Names,
+    Meets,
+    Minimal,
+}
+
+// The set is not empty, and names no site outside 1 to `size`.
+fn names_sites(size: u64, set: u64) -> bool
+    requires { ⌜ size ≤ siteLimit ⌝ }
+    ensures { λ r. ⌜ r ≡ names size set ⌝ }
+{
+    if set == 0 { false } else { set >> size == 0 }
+}
+
+// One of two sets strictly contains the other.
+fn are_nested(a: u64, b: u64) -> bool
+    ensures { λ r. ⌜ ((n : ℕ) → a < 2 ^ n → b < 2 ^ n → r ≡ nested n a b) ⌝ }
+{
+    if a == b {
+        return false;
+    }
+    let common = a & b;
+    common == a || common == b
+}
+
+// Two sets are as the rule asks.
+fn pair_keeps(rule: Rule, a: u64, b: u64) -> bool
+    ensures { λ r. ⌜ ((n : ℕ) → a < 2 ^ n → b < 2 ^ n → r ≡ pairKeeps rule n a b) ⌝ }
+{
+    match rule {
+        Rule::Names => true,
+        Rule::Meets => a & b != 0,
+        Rule::Minimal => !are_nested(a, b),
+    }
+}
+
+// The set at index k and each one before it are as the rule asks.
+fn earlier_keep(rule: Rule, size: u64, sets: &[u64], k: u64) -> bool
+    requires { ⌜ (size ≤ siteLimit) × (length (now sets) ≡ siteLimit) × (k < size) × (allName size (now sets) ≡ true) ⌝ }
+    ensures { λ r. ⌜ r ≡ earlierKeep rule size (now (sets .entry)) (k + 1) ⌝ }
+{
+    let set = sets[k as usize];
+    for i in 0..k {
+        if !pair_keeps(rule, set, sets[i as usize]) {
+            return false;
+        }
+    }
+    true
+}
+
+// An inner call: the set at index k keeps the rule. Sets are compared once all of them name sites 1 to `size` and no other.
+pub fn keeps(rule: Rule, size: u64, sets: &[u64], k: u64) -> bool
+    requires { ⌜ (size ≤ siteLimit) × (length (now sets) ≡ siteLimit) × (k < size) × Comparable rule size (now sets) ⌝ }
+    ensures { λ r. ⌜ r ≡ keepsRule rule size (now (sets .entry)) (k + 1) ⌝ }
+{
+    match rule {
+        Rule::Names => names_sites(size, sets[k as usize]),
+        Rule::Meets => earlier_keep(Rule::Meets, size, sets, k),
+        Rule::Minimal => earlier_keep(Rule::Minimal, size, sets, k),
+    }
+}
