@@ -105,6 +105,17 @@ unfolding all
 all-same p q zero h = refl
 all-same p q (suc n) h = rw (all-same p q n (λ k a b. h k a (omega arith)), h (suc n) (omega arith) (omega arith))
 
+-- two tests at once
+pub all-both : (p q : ℕ → Bool) (n : ℕ) → all (λ k. p k && q k) n ≡ all p n && all q n
+unfolding all
+all-both p q zero = refl
+all-both p q (suc n) = rw (all-both p q n) (exchange (all p n) (all q n) (p (suc n)) (q (suc n)))
+  where
+    exchange : (a b c d : Bool) → (a && b) && (c && d) ≡ (a && c) && (b && d)
+    exchange true true c d = refl
+    exchange true false c d = sym (and-second c false refl)
+    exchange false b c d = refl
+
 pub any-at : (p : ℕ → Bool) (n : ℕ) → any p n ≡ true → (k : ℕ) × (1 ≤ k) × (k ≤ n) × (p k ≡ true)
 unfolding any
 any-at p zero e = clash false e refl

@@ -27,4 +27,4 @@ unfolding allMinimal minimalEarlier
 equal-accepted n width sets meets equal =
     meeting-setup n sets meets
     ∙ rw (all-of (minimalEarlier n sets) n (λ k a b. all-of _ _ (λ l c d.
-        not-of _ (equal-not-nested n (at 0 sets k) (at 0 sets l) (equal k (a, b) ∙ sym (equal l (c, omega arith)))))))
+    not-of _ (equal-not-nested n (at 0 sets k) (at 0 sets l) (equal k (a, b) ∙ sym (equal l (c, omega arith)))))))

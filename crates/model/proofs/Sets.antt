@@ -172,6 +172,9 @@ equal-not-nested n a b e = rw (not-strictly a b e, not-strictly b a (sym e))
     not-strictly : (a b : ℕ) → count (member a) n ≡ count (member b) n → strictlyContains n a b ≡ false
     not-strictly a b e =
         by-bool (contains n a b)
-        (λ t. rw (t, all-of (λ m. not (member a m) || member b m) n (λ k c d.
-            implied (member a k) (member b k) (count-filled (member b) (member a) n (λ i f g u. implies (member b i) (member a i) (all-at _ n i t f g) u) (omega arith) k c d))))
+        (λ t. rw (
+          t,
+          all-of (λ m. not (member a m) || member b m) n (λ k c d.
+              implied (member a k) (member b k) (count-filled (member b) (member a) n (λ i f g u. implies (member b i) (member a i) (all-at _ n i t f g) u) (omega arith) k c d)),
+        ))
         (λ t. rw t)

@@ -1,16 +1,22 @@
--- All sets keep a rule exactly where there is no first one that breaks it. The line of sets that meet hangs on no entry past n.
-use Prim.Native.Nat.{ℕ, _+_}
-use mathlib.Core.Path.{_≡_, ap}
-use mathlib.Core.Bool.{not}
+-- All sets keep a rule exactly where there is no first one that breaks it, and what that says of setup's codes. The line of sets that meet hangs on no
+-- entry past n.
+use Prim.Native.Nat.{ℕ, _+_, _≤_}
+use mathlib.Core.Path.{_≡_, refl, sym, ap, _∙_}
+use mathlib.Core.Logic.{_≢_}
+use mathlib.Core.Bool.{true, not, _&&_, cond}
 use mathlib.Core.List.{List}
-use lib.Dec.{eqb}
-use Rattle.basics.proofs.Basics.{all-lowest, lowest-same}
-use Rattle.model.specs.Setup.{allName, allMeet, allMinimal, keptSets}
-use Rattle.model.proofs.Setup.{Accepted}
+use native.Mathlib.Omega.{arith}
+use lib.Dec.{eqb, leb}
+use lib.ListN.{length}
+use borrow.Author.Tests.{eqb-true, eq-eqb, ne-eqb, leb-true, not-false}
+use Rattle.rig.specs.Limits.{siteLimit}
+use Rattle.basics.proofs.Basics.{by-bool, and-split, all-both, all-lowest, lowest-same}
+use Rattle.model.specs.Setup.{sizeListed, allName, allMeet, allMinimal, meetingCode, setupCode, keptSets}
+use Rattle.model.proofs.Setup.{not-coded, Accepted}
 use Rattle.model.proofs.Lawful.{kept-accepted, kept-minimal-at}
-use Rattle.setup_rules.specs.declared.Rule.the-variants.{Names, Meets, Minimal}
+use Rattle.setup_rules.specs.declared.Rule.the-variants.{Names, Meets, Minimal, Fits}
 use Rattle.setup_rules.specs.Rules.{keepsRule}
-use Rattle.setup_faults.specs.Faults.{firstBreaking, faultLine}
+use Rattle.setup_faults.specs.Faults.{eachCode, firstBreaking, faultLine}
 
 module _ (n : ℕ) (sets : List ℕ) where
   pub all-name : allName n sets ≡ eqb (firstBreaking Names n sets) 0
@@ -21,9 +27,63 @@ module _ (n : ℕ) (sets : List ℕ) where
   unfolding allMeet firstBreaking keepsRule
   all-meet = all-lowest _ n
 
-  pub all-minimal : allMinimal n sets ≡ eqb (firstBreaking Minimal n sets) 0
-  unfolding allMinimal firstBreaking keepsRule
-  all-minimal = all-lowest _ n
+  pub all-fit : allMeet n sets && allMinimal n sets ≡ eqb (firstBreaking Fits n sets) 0
+  unfolding allMeet allMinimal firstBreaking keepsRule
+  all-fit = sym (all-both _ _ n) ∙ all-lowest _ n
+
+  -- a set by itself, or N, is at fault
+  pub each-refused : eachCode n sets ≢ 0 → (meetingCode n sets ≡ eachCode n sets) × (setupCode n sets ≡ eachCode n sets)
+  unfolding eachCode meetingCode setupCode
+  each-refused h =
+      by-bool (eqb (length sets) siteLimit)
+      (λ a. by-bool (sizeListed n)
+      (λ b. by-bool (allName n sets)
+      (λ d. absurd (h (rw (a, b, d))))
+      (λ d. rw (a, b, d) (refl, refl)))
+      (λ b. rw (a, b) (refl, refl)))
+      (λ a. rw a (refl, refl))
+
+  -- none is: the codes 3 and 17 are left
+  module _ (e : eachCode n sets ≡ 0) where
+    passed : (eqb (length sets) siteLimit ≡ true) × (sizeListed n ≡ true) × (allName n sets ≡ true)
+    unfolding eachCode
+    passed =
+        let a = not-coded _ 13 _ (omega arith) e in
+        let b = not-coded _ 1 _ (omega arith) (a .1) in
+        let c = not-coded _ 2 _ (omega arith) (b .1) in
+        (not-false _ (a .0), not-false _ (b .0), not-false _ (c .0))
+
+    pub each-known : (n ≤ siteLimit) × (length sets ≡ siteLimit) × (allName n sets ≡ true)
+    unfolding sizeListed
+    each-known =
+        let (long, size, named) = passed in
+        (leb-true n siteLimit (and-split (leb 1 n) (leb n siteLimit) size .1), eqb-true (length sets) siteLimit long, named)
+
+    pub each-meeting : meetingCode n sets ≡ cond (allMeet n sets) 0 3
+    unfolding meetingCode
+    each-meeting = let (long, size, named) = passed in rw (long, size, named) (by-bool (allMeet n sets) (λ t. rw t) (λ t. rw t))
+
+    each-setup : setupCode n sets ≡ cond (allMeet n sets) (cond (allMinimal n sets) 0 17) 3
+    unfolding setupCode
+    each-setup =
+        rw each-meeting
+        (by-bool (allMeet n sets)
+        (λ t. by-bool (allMinimal n sets) (λ u. rw (t, u)) (λ u. rw (t, u)))
+        (λ t. rw t))
+
+    pub told-0 : firstBreaking Fits n sets ≡ 0 → setupCode n sets ≡ 0
+    told-0 f =
+        let w = and-split (allMeet n sets) (allMinimal n sets) (all-fit ∙ eq-eqb _ 0 f) in
+        each-setup ∙ rw (w .0, w .1)
+
+    pub told-3 : firstBreaking Meets n sets ≢ 0 → setupCode n sets ≡ 3
+    told-3 f = each-setup ∙ rw (all-meet ∙ ne-eqb _ 0 f)
+
+    pub told-17 : firstBreaking Fits n sets ≢ 0 → firstBreaking Meets n sets ≡ 0 → setupCode n sets ≡ 17
+    told-17 f g =
+        let meets = all-meet ∙ eq-eqb _ 0 g in
+        let apart = all-fit ∙ ne-eqb _ 0 f in
+        each-setup ∙ rw (meets, rw meets at apart)
 
   module _ (a : Accepted n sets) where
     pub kept-line : faultLine n (keptSets n sets) ≡ faultLine n sets

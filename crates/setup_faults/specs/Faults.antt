@@ -2,8 +2,11 @@
 use Prim.Native.Nat.{ℕ, _+_}
 use mathlib.Core.Bool.{not, cond}
 use mathlib.Core.List.{List}
+use lib.Dec.{eqb}
+use lib.ListN.{length}
+use Rattle.rig.specs.Limits.{siteLimit}
 use Rattle.basics.specs.Helpers.{lowest}
-use Rattle.model.specs.Setup.{allName, allMeet}
+use Rattle.model.specs.Setup.{sizeListed, allName, allMeet}
 use Rattle.setup_rules.specs.declared.Rule.{Rule}
 use Rattle.setup_rules.specs.declared.Rule.the-variants.{Names, Meets, Minimal}
 use Rattle.setup_rules.specs.Rules.{keepsRule}
@@ -19,3 +22,11 @@ faultLine n sets =
     cond (not (allName n sets)) (firstBreaking Names n sets + 1)
     (cond (not (allMeet n sets)) (firstBreaking Meets n sets + 1)
     (firstBreaking Minimal n sets + 1))
+
+-- what setup asks of N and of each set by itself: its codes 13, 1 and 2 alone
+unfoldable pub eachCode : ℕ → List ℕ → ℕ
+eachCode n sets =
+    cond (not (eqb (length sets) siteLimit)) 13
+    (cond (not (sizeListed n)) 1
+    (cond (not (allName n sets)) 2
+    0))

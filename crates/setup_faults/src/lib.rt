@@ -8,7 +8,7 @@ ghost use lib.ListN.{length};
 ghost use Rattle.rig.specs.Limits.{siteLimit};
 ghost use Rattle.model.specs.Setup.{meetingCode, setupCode};
 ghost use Rattle.setup_rules.specs.Rules.{Comparable};
-ghost use Rattle.setup_faults.specs.Faults.{firstBreaking, faultLine};
+ghost use Rattle.setup_faults.specs.Faults.{eachCode, firstBreaking, faultLine};
 
 // The first site whose set breaks the rule, 0 none.
 fn first_breaking(rule: Rule, size: u64, sets: &[u64]) -> u64
@@ -23,9 +23,9 @@ fn first_breaking(rule: Rule, size: u64, sets: &[u64]) -> u64
     0
 }
 
-// The codes 13, 1, 2 and 3 alone: whether sets meet as they must. For sets of any length, any size and any bits.
-pub fn judge_meeting(size: u64, sets: &[u64]) -> u64
-    ensures { λ r. ⌜ r ≡ meetingCode size (now (sets .entry)) ⌝ }
+// The codes 13, 1 and 2: what is asked of N, and of each set by itself.
+fn judge_each(size: u64, sets: &[u64]) -> u64
+    ensures { λ r. ⌜ r ≡ eachCode size (now (sets .entry)) ⌝ }
 {
     if sets.len() != Rig::SITES {
         return 13;
@@ -39,24 +39,36 @@ pub fn judge_meeting(size: u64, sets: &[u64]) -> u64
     if first_breaking(Rule::Names, size, sets) != 0 {
         return 2;
     }
+    0
+}
+
+// The codes 13, 1, 2 and 3 alone: whether sets meet as they must. For sets of any length, any size and any bits.
+pub fn judge_meeting(size: u64, sets: &[u64]) -> u64
+    ensures { λ r. ⌜ r ≡ meetingCode size (now (sets .entry)) ⌝ }
+{
+    let code = judge_each(size, sets);
+    if code != 0 {
+        return code;
+    }
     if first_breaking(Rule::Meets, size, sets) != 0 {
         return 3;
     }
     0
 }
 
-// Setup's code: these, then 17.
+// Setup's code: these, then 17. Sets that pass are compared once; only of others it is asked which of the two codes they get.
 pub fn judge(size: u64, sets: &[u64]) -> u64
     ensures { λ r. ⌜ r ≡ setupCode size (now (sets .entry)) ⌝ }
 {
-    let code = judge_meeting(size, sets);
+    let code = judge_each(size, sets);
     if code != 0 {
         return code;
     }
-    if first_breaking(Rule::Minimal, size, sets) != 0 {
-        return 17;
+    if first_breaking(Rule::Fits, size, sets) == 0 {
+        return 0;
     }
-    code
+    let apart = first_breaking(Rule::Meets, size, sets);
+    if apart != 0 { 3 } else { 17 }
 }
 
 // An inner call: the line of the player's text that holds the set for which setup answers 2, 3 or 17.
@@ -68,9 +80,9 @@ pub fn fault_line(size: u64, sets: &[u64]) -> u64
     if faulty != 0 {
         return faulty + 1;
     }
-    let apart = first_breaking(Rule::Meets, size, sets);
-    if apart != 0 {
-        return apart + 1;
+    let missing = first_breaking(Rule::Meets, size, sets);
+    if missing != 0 {
+        return missing + 1;
     }
     first_breaking(Rule::Minimal, size, sets) + 1
 }

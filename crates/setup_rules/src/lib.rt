@@ -1,19 +1,20 @@
 // What setup asks of each request set: three rules, and whether a set keeps one.
 ghost use mathlib.Core.Path.{_≡_};
-ghost use mathlib.Core.Bool.{true};
+ghost use mathlib.Core.Bool.{true, not, _&&_};
 ghost use Prim.Native.Nat.{ℕ, _<_, _≤_, _+_, _^_};
 ghost use lib.ListN.{length};
 ghost use Rattle.rig.specs.Limits.{siteLimit};
-ghost use Rattle.model.specs.Sets.{names, nested};
+ghost use Rattle.model.specs.Sets.{names, meet, nested};
 ghost use Rattle.model.specs.Setup.{allName};
 ghost use Rattle.setup_rules.specs.Rules.{pairKeeps, earlierKeep, keepsRule, Comparable};
 
-// To name sites 1 to `size` and no other, to share a site with each earlier set, and to be minimal: neither to contain strictly an earlier set, nor
-// to be contained strictly in one.
+// To name sites 1 to `size` and no other; to share a site with each earlier set; to be minimal, neither to contain strictly an earlier set nor to be
+// contained strictly in one; and the last two at once.
 pub enum Rule {
     Names,
     Meets,
     Minimal,
+    Fits,
 }
 
 // The set is not empty, and names no site outside 1 to `size`.
@@ -35,6 +36,16 @@ fn are_nested(a: u64, b: u64) -> bool
     common == a || common == b
 }
 
+// Two sets share a site, and neither strictly contains the other.
+fn fit(a: u64, b: u64) -> bool
+    ensures { λ r. ⌜ ((n : ℕ) → a < 2 ^ n → b < 2 ^ n → r ≡ meet n a b && not (nested n a b)) ⌝ }
+{
+    if a & b == 0 {
+        return false;
+    }
+    !are_nested(a, b)
+}
+
 // Two sets are as the rule asks.
 fn pair_keeps(rule: Rule, a: u64, b: u64) -> bool
     ensures { λ r. ⌜ ((n : ℕ) → a < 2 ^ n → b < 2 ^ n → r ≡ pairKeeps rule n a b) ⌝ }
@@ -43,6 +54,7 @@ fn pair_keeps(rule: Rule, a: u64, b: u64) -> bool
         Rule::Names => true,
         Rule::Meets => a & b != 0,
         Rule::Minimal => !are_nested(a, b),
+        Rule::Fits => fit(a, b),
     }
 }
 
@@ -69,5 +81,6 @@ pub fn keeps(rule: Rule, size: u64, sets: &[u64], k: u64) -> bool
         Rule::Names => names_sites(size, sets[k as usize]),
         Rule::Meets => earlier_keep(Rule::Meets, size, sets, k),
         Rule::Minimal => earlier_keep(Rule::Minimal, size, sets, k),
+        Rule::Fits => earlier_keep(Rule::Fits, size, sets, k),
     }
 }

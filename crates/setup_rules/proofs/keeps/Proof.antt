@@ -1,6 +1,8 @@
 -- `keeps`: one arm for each rule.
+use mathlib.Core.Path.{_∙_}
 use native.Mathlib.Numerals.{add-one}
 use borrow.Author.Needs.{needs}
+use Rattle.basics.proofs.Basics.{all-both}
 use Rattle.model.specs.Tables.{at}
 use Rattle.model.specs.Setup.{meetsEarlier, minimalEarlier}
 use Rattle.setup_rules.specs.Rules.{pairKeeps, earlierKeep, keepsRule}
@@ -35,6 +37,14 @@ earlier-keep-requires-2 c κs =
     let p = c .before .before .before .pre in
     (p .0, p .1, p .2, rw (c .enum-told3 .given .1) at (p .3))
 
+enum-told-4 : tie.Need-enum-told-4
+enum-told-4 c = search needs
+
+earlier-keep-requires-3 : tie.Need-earlier-keep-requires-3
+earlier-keep-requires-3 c κs =
+    let p = c .before .before .before .pre in
+    (p .0, p .1, p .2, rw (c .enum-told4 .given .1) at (p .3))
+
 returns : tie.Need-returns
 unfolding keepsRule at
 returns c = rw (c .before .before .enum-told .given .1, add-one) (c .names-sites .ensures)
@@ -46,6 +56,10 @@ returns-2 c = rw (c .before .enum-told2 .given .1) (c .earlier-keep .ensures)
 returns-3 : tie.Need-returns-3
 unfolding keepsRule earlierKeep pairKeeps minimalEarlier
 returns-3 c = rw (c .before .enum-told3 .given .1) (c .earlier-keep2 .ensures)
+
+returns-4 : tie.Need-returns-4
+unfolding keepsRule earlierKeep pairKeeps meetsEarlier minimalEarlier
+returns-4 c = rw (c .before .enum-told4 .given .1) (c .earlier-keep3 .ensures ∙ all-both _ _ _)
 
 pub keeps-spec : {M : Type 1} → statement M
 keeps-spec =
@@ -59,6 +73,9 @@ keeps-spec =
     earlier-keep-requires
     enum-told-3
     earlier-keep-requires-2
+    enum-told-4
+    earlier-keep-requires-3
     returns
     returns-2
-    returns-3)
+    returns-3
+    returns-4)
