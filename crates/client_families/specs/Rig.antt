@@ -16,7 +16,7 @@ use Rattle.setup.specs.Answer.{setupAnswer}
 unfoldable pub familyRig : Family → Answer
 familyRig f = cond (listed f) (record { code = 0; rig = freshRig (sizeOf f) (setsOf f) }) (record { code = 12; rig = noRig })
 
--- of a family by votes setup's answer, with the code of a refusal where it is not made
+-- A family by votes: setup's answer to its sets; where the family is turned down, the code of that, with a rig without sites.
 unfoldable pub votesRig : ℕ → List ℕ → Answer
 votesRig n votes =
     let code = votesCode n votes siteLimit in

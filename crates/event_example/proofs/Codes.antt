@@ -12,7 +12,7 @@ use Rattle.rig.specs.declared.Event.{Event}
 use Rattle.rig.specs.Limits.{messageLimit, blankTable}
 use Rattle.model.specs.Tables.{at, put, cell}
 use Rattle.model.specs.Sets.{member, meet, names, contains, strictlyContains, nested}
-use Rattle.model.specs.Setup.{sizeListed, allName, meetsEarlier, allMeet, minimalEarlier, allMinimal, meetingCode, setupCode, keptSets, freshRig}
+use Rattle.model.specs.Setup.{sizeListed, allName, meetsEarlier, allMeet, unnestedEarlier, allMinimal, eachCode, meetingCode, setupCode, keptSets, freshRig}
 use Rattle.model.specs.State.{freshTables, deskOf, withDesk, withAccepted}
 use Rattle.model.specs.Priority.{comesBefore, headWith, head}
 use Rattle.model.specs.Ask.{requests, asked}
@@ -74,7 +74,7 @@ calculated :
     (entriesShaped ≡ true)
     × (misjudged wholeCases ≡ []) × (misjudgedOn partCases ≡ []) × (misjudgedOn spentCases ≡ [])
     × RefusalsChangeNothing × ZerosPastTheCount
-unfolding at put cell all any first withoutFirst member meet names contains strictlyContains nested sizeListed allName meetsEarlier allMeet minimalEarlier allMinimal meetingCode setupCode keptSets freshRig freshTables deskOf withDesk withAccepted comesBefore headWith head requests asked handOn handOns left headOf nextHeir granted grantedHead clockRaised failFormer inquireOrFail answers queuedUp onRequest inquireIfBefore headNamed heirTakesOver holderReleases fromHolder isEarly earlyRelease onRelease onYield failedSet yielded allHeld entered taken enteredOrYielded takes onReply remembered yieldedOrRemembered onInquire mustYield yieldedIf yieldedUpTo failCounts onFail onTransfer between delivered isNumber isGiven setShaped modeShaped siteBlank siteShaped holderShaped arbiterShaped placeShaped rigShaped entryShaped ownShaped heirShaped queuedShaped everywhere numberShaped plainShaped releaseShaped aboutShaped messageShaped messagesShaped tablesShaped wellShaped actor sitesNamed takenOff attempt attempted numbersUpTo numbersFit limitCode padded acceptedState judged eventAt settled played tested event fresh site arbiter entry baseSets baseHeld baseHeir baseQueued baseMessages asIs rigWith stateWith base siteIs arbiterIs acceptedIs listIs carries many full sizeIs setIs heldIs heirIs inquiredIs queuedIs atLimits alike misjudged wholeCases partCases spentCases codeOn misjudgedOn entriesShaped partsShaped
+unfolding at put cell all any first withoutFirst member meet names contains strictlyContains nested sizeListed allName meetsEarlier allMeet unnestedEarlier allMinimal eachCode meetingCode setupCode keptSets freshRig freshTables deskOf withDesk withAccepted comesBefore headWith head requests asked handOn handOns left headOf nextHeir granted grantedHead clockRaised failFormer inquireOrFail answers queuedUp onRequest inquireIfBefore headNamed heirTakesOver holderReleases fromHolder isEarly earlyRelease onRelease onYield failedSet yielded allHeld entered taken enteredOrYielded takes onReply remembered yieldedOrRemembered onInquire mustYield yieldedIf yieldedUpTo failCounts onFail onTransfer between delivered isNumber isGiven setShaped modeShaped siteBlank siteShaped holderShaped arbiterShaped placeShaped rigShaped entryShaped ownShaped heirShaped queuedShaped everywhere numberShaped plainShaped releaseShaped aboutShaped messageShaped messagesShaped tablesShaped wellShaped actor sitesNamed takenOff attempt attempted numbersUpTo numbersFit limitCode padded acceptedState judged eventAt settled played tested event fresh site arbiter entry baseSets baseHeld baseHeir baseQueued baseMessages asIs rigWith stateWith base siteIs arbiterIs acceptedIs listIs carries many full sizeIs setIs heldIs heirIs inquiredIs queuedIs atLimits alike misjudged wholeCases partCases spentCases codeOn misjudgedOn entriesShaped partsShaped
 calculated = (refl, refl, refl, refl, (refl, refl), refl)
 
 -- no case gets another code than the one listed

@@ -68,6 +68,7 @@ wholeCases =
     ∷ case "sets 1 and 3 share no site, while neighbours do" (setIs 1 2 (setIs 2 6 (setIs 3 4 (alike 3 7)))) (Ask 2) 10
     ∷ case "set 3 strictly contains earlier sets" (setIs 3 7 base) (Ask 2) 10
     ∷ case "sets 2 and 3 are strictly contained in set 1" (setIs 1 7 base) (Ask 2) 10
+    ∷ case "of four sets 2 and 4 alone: 4 strictly contains 2" (setIs 1 3 (setIs 2 5 (setIs 3 6 (setIs 4 13 (alike 4 15))))) (Ask 1) 10
     ∷ case "equal sets" (setIs 2 3 base) (Ask 2) 0
     ∷ case "a set past N" (setIs 4 1 base) (Ask 2) 10
     ∷ case "a set at the last place" (setIs siteLimit 1 base) (Ask 2) 10

@@ -71,6 +71,6 @@ module _ (n : ℕ) (votes : List ℕ) (entries : ℕ) where
         record {
           meet = sets-meet (takes n votes) n h (votes-meet n votes s);
           shortest = λ k r. rw (set-made (takes n votes) n h k r) (run-shortest n votes s k r);
-          passes = meets n votes s h;
+          meeting = meets n votes s h;
           zeroOr17 = zero-or-17 n (setsByVotes n votes) (meets n votes s h);
         }

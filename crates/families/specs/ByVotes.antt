@@ -30,5 +30,5 @@ filledByVotes n votes sets = cond (eqb (votesCode n votes (length sets)) 0) (set
 pub record VotesKept (n : ℕ) (votes sets : List ℕ) : Type 0 where
   pub meet : (k l : ℕ) → SiteTo n k → SiteTo n l → Common n (member (at 0 sets k)) (member (at 0 sets l))
   pub shortest : (k : ℕ) → SiteTo n k → ShortestRun n votes k (at 0 sets k)
-  pub passes : meetingCode n sets ≡ 0
+  pub meeting : meetingCode n sets ≡ 0
   pub zeroOr17 : (setupCode n sets ≡ 0) ⊎ (setupCode n sets ≡ 17)

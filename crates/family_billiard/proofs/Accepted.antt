@@ -8,7 +8,7 @@ use lib.ListN.{getD}
 use Rattle.basics.specs.Helpers.{all, any, count}
 use Rattle.model.specs.Tables.{at}
 use Rattle.model.specs.Sets.{member, setOf, meet, names}
-use Rattle.model.specs.Setup.{sizeListed, allName, meetsEarlier, allMeet, meetingCode}
+use Rattle.model.specs.Setup.{sizeListed, allName, meetsEarlier, allMeet, eachCode, meetingCode}
 use Rattle.family_sets.specs.Meeting.{SiteTo}
 use Rattle.family_sets.specs.Rule.{isEntry, setBy, setsUpTo, meetingBy}
 use Rattle.family_sets.proofs.Rule.{eachTakes, each-taken}
@@ -16,7 +16,7 @@ use Rattle.family_billiard.specs.Billiard.{qListed, billiardSize, modFro
 use Rattle.family_billiard.proofs.Parameters.{by-q}
 
 pub meets : (q : ℕ) → qListed q ≡ true → meetingBy (isEntry (billiardEntry q) q) (billiardSize q) ≡ 0
-unfolding at all any member setOf meet names sizeListed allName meetsEarlier allMeet meetingCode isEntry setBy setsUpTo modFromOne firstSite nextAbove nextBelow nextSite pathSite billiardEntry
+unfolding at all any member setOf meet names sizeListed allName meetsEarlier allMeet eachCode meetingCode isEntry setBy setsUpTo modFromOne firstSite nextAbove nextBelow nextSite pathSite billiardEntry
 meets q h = by-q (λ q. meetingBy (isEntry (billiardEntry q) q) (billiardSize q) ≡ 0) refl refl refl q h
 
 -- no site comes twice on a path

@@ -5,7 +5,7 @@ use mathlib.Core.Bool.{true}
 use Rattle.basics.specs.Helpers.{all, any, count}
 use Rattle.model.specs.Tables.{at}
 use Rattle.model.specs.Sets.{member, setOf, meet, names}
-use Rattle.model.specs.Setup.{sizeListed, allName, meetsEarlier, allMeet, meetingCode}
+use Rattle.model.specs.Setup.{sizeListed, allName, meetsEarlier, allMeet, eachCode, meetingCode}
 use Rattle.family_sets.specs.Meeting.{SiteTo}
 use Rattle.family_sets.specs.Rule.{isEntry, setBy, setsUpTo, meetingBy}
 use Rattle.family_sets.proofs.Rule.{eachTakes, each-taken}
@@ -13,7 +13,7 @@ use Rattle.family_grid.specs.Grid.{sideListed, gridSize, gridWidth, grid
 use Rattle.family_grid.proofs.Parameters.{by-side}
 
 pub meets : (s : ℕ) → sideListed s ≡ true → meetingBy (isEntry (gridEntry s) (gridWidth s)) (gridSize s) ≡ 0
-unfolding at all any member setOf meet names sizeListed allName meetsEarlier allMeet meetingCode isEntry setBy setsUpTo gridEntry
+unfolding at all any member setOf meet names sizeListed allName meetsEarlier allMeet eachCode meetingCode isEntry setBy setsUpTo gridEntry
 meets s h = by-side (λ s. meetingBy (isEntry (gridEntry s) (gridWidth s)) (gridSize s) ≡ 0) refl refl refl refl refl s h
 
 pub equal : (s : ℕ) → sideListed s ≡ true → (n : ℕ) → SiteTo (gridSize s) n → count (isEntry (gridEntry s) (gridWidth s) n) (gridSize s) ≡ gridMembers s

@@ -1,7 +1,7 @@
 -- Request 2.6: all sets of levels are equally large. A level of p sites, and one site of each other level.
 use Prim.Native.Nat.{ℕ, zero, suc, _+_, _-_, _*_, _/_, _%_, _≤_, _<_}
-use mathlib.Core.Path.{_≡_, refl, sym, ap, _∙_}
-use mathlib.Core.Bool.{Bool, true, false, _&&_, _||_, cond}
+use mathlib.Core.Path.{_≡_, refl, ap, _∙_}
+use mathlib.Core.Bool.{Bool, false, _&&_, _||_, cond}
 use native.Mathlib.Nat.{mul-comm, mul-pos, suc-mul, mod-eq-of-lt, div-eq-of-lt, mul-add-div-right, mul-add-mod-self-right}
 use native.Mathlib.Omega.{arith}
 use lib.Dec.{eqb, leb}
@@ -9,8 +9,8 @@ use borrow.Author.Tests.{eq-eqb, ne-eqb, eqb-true, eqb-false, le-leb, lt-leb, le
 use Rattle.basics.specs.Helpers.{count}
 use Rattle.basics.proofs.Basics.{by-bool, and-second, count-same, count-all, count-one, count-behind}
 use Rattle.family_sets.specs.Meeting.{SiteTo}
-use Rattle.family_levels.specs.Levels.{levelsSize, levelsMembers, levelOf, rowOf, bayOf, inLevels, LevelsEqual}
-use Rattle.family_levels.proofs.Meeting.{place, site, place-low, level-most, site-number, named, takes-level-and-bay}
+use Rattle.family_levels.specs.Levels.{levelsSize, levelsMembers, levelOf, rowOf, bayOf, inLevels}
+use Rattle.family_levels.proofs.Meeting.{place, site, place-low, level-most, site-number, takes-level-and-bay}
 
 -- the sites of a level, and those at one spot of each level, p sites to a level
 module _ (p level spot : ℕ) (pos : 1 ≤ p) (first : 1 ≤ level) (h : SiteTo p spot) where

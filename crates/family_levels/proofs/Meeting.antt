@@ -135,7 +135,7 @@ module _ (a b c : ℕ) (rows : 1 ≤ a) (bays : 1 ≤ b) (levels : 1 ≤ c) wher
         entered (a * b + levelOf a b m) (omega arith, omega arith) (sym (own-site m (k .0)) ∙ rw (e, f) (sym (at-level n (levelOf a b m) (q .0))))
 
     -- the sites that the words name
-    abbrev pub named : Bool
+    abbrev named : Bool
     named = eqb (levelOf a b m) (levelOf a b n) || (eqb (rowOf a b m) (rowOf a b n) && eqb (bayOf a b m) (bayOf a b n))
 
     entry-named : (i : ℕ) → 1 ≤ i → m ≡ levelsEntry a b n i → named ≡ true

@@ -5,7 +5,7 @@ use mathlib.Core.Bool.{true}
 use Rattle.basics.specs.Helpers.{all, any, count}
 use Rattle.model.specs.Tables.{at}
 use Rattle.model.specs.Sets.{member, setOf, meet, names}
-use Rattle.model.specs.Setup.{sizeListed, allName, meetsEarlier, allMeet, meetingCode}
+use Rattle.model.specs.Setup.{sizeListed, allName, meetsEarlier, allMeet, eachCode, meetingCode}
 use Rattle.family_sets.specs.Meeting.{SiteTo}
 use Rattle.family_sets.specs.Rule.{isEntry, setBy, setsUpTo, meetingBy}
 use Rattle.family_sets.proofs.Rule.{eachTakes, each-taken}
@@ -13,7 +13,7 @@ use Rattle.family_plane.specs.Plane.{pListed, planeSize, planeWidth, fir
 use Rattle.family_plane.proofs.Parameters.{by-p}
 
 pub meets : (p : ℕ) → pListed p ≡ true → meetingBy (isEntry (planeEntry p) (planeWidth p)) (planeSize p) ≡ 0
-unfolding at all any member setOf meet names sizeListed allName meetsEarlier allMeet meetingCode isEntry setBy setsUpTo firstMatrix otherMatrix planeEntry
+unfolding at all any member setOf meet names sizeListed allName meetsEarlier allMeet eachCode meetingCode isEntry setBy setsUpTo firstMatrix otherMatrix planeEntry
 meets p h = by-p (λ p. meetingBy (isEntry (planeEntry p) (planeWidth p)) (planeSize p) ≡ 0) refl refl refl p h
 
 -- no site stands twice in a row

@@ -21,7 +21,7 @@ use Rattle.family_sets.specs.Meeting.{SiteTo, Common}
 use Rattle.family_sets.specs.Rule.{setBy, setsUpTo, meetingBy, codeBy}
 use Rattle.family_sets.proofs.Bounds.{set-below}
 use Rattle.family_sets.proofs.Members.{member-of}
-use Rattle.family_sets.proofs.Meeting.{meeting-accepted, equal-accepted}
+use Rattle.family_sets.proofs.Meeting.{meeting-code-zero, equal-accepted}
 
 -- a set with a site of 1 to n in it names sites of 1 to n, and is not empty
 set-names : (p : ℕ → Bool) (n m : ℕ) → SiteTo n m → p m ≡ true → names n (setOf p n) ≡ true
@@ -86,21 +86,21 @@ module _ (takes : ℕ → ℕ → Bool) (size : ℕ) where
 
       -- and setup gives none of the codes 13, 1, 2 and 3
       pub rule-meets : meetingBy takes size ≡ 0
-      rule-meets = meeting-accepted size (setsUpTo takes size siteLimit) (length-sets siteLimit) h named sets-meet
+      rule-meets = meeting-code-zero size (setsUpTo takes size siteLimit) (length-sets siteLimit) h named sets-meet
         where
           named : (k : ℕ) → SiteTo size k → names size (at 0 (setsUpTo takes size siteLimit) k) ≡ true
           named k a = let s = common k k a a in rw (set-made k a) (set-names (takes k) size (s .site) (s .inRange) (s .first))
 
   -- equally many sites for each, as one test
   abbrev pub eachTakes : ℕ → Bool
-  eachTakes width = all (λ n. eqb (count (takes n) size) width) size
+  eachTakes members = all (λ n. eqb (count (takes n) size) members) size
 
-  pub each-taken : (width : ℕ) → eachTakes width ≡ true → (n : ℕ) → SiteTo size n → count (takes n) size ≡ width
-  each-taken width h n r = eqb-true _ width (all-at _ size n h (r .0) (r .1))
+  pub each-taken : (members : ℕ) → eachTakes members ≡ true → (n : ℕ) → SiteTo size n → count (takes n) size ≡ members
+  each-taken members h n r = eqb-true _ members (all-at _ size n h (r .0) (r .1))
 
   -- where it takes equally many sites for each, setup's code is 0
-  pub rule-accepted : meetingBy takes size ≡ 0 → (width : ℕ) → ((n : ℕ) → SiteTo size n → count (takes n) size ≡ width) → codeBy takes size ≡ 0
-  rule-accepted meets width equal =
+  pub rule-accepted : meetingBy takes size ≡ 0 → (members : ℕ) → ((n : ℕ) → SiteTo size n → count (takes n) size ≡ members) → codeBy takes size ≡ 0
+  rule-accepted meets members equal =
       let a = meeting size (setsUpTo takes size siteLimit) meets in
-      equal-accepted size width (setsUpTo takes size siteLimit) meets
+      equal-accepted size members (setsUpTo takes size siteLimit) meets
       (λ k h. rw (set-made (a .low, a .high) k h) (count-same _ (takes k) size (member-of (takes k) size)) ∙ equal k h)

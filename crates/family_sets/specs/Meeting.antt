@@ -1,5 +1,5 @@
--- Document 01, "Sizes of a rig": "Every two sets share a site." What that asks of sets, site by site; and request 2.6: what keeps sets from containing
--- one another.
+-- Document 01, "Sizes of a rig": "Every two sets share a site." What that asks of sets, site by site; and request 2.6: sets of which none
+-- strictly contains another.
 use Prim.Native.Nat.{ℕ, _≤_}
 use mathlib.Core.Path.{_≡_}
 use mathlib.Core.Bool.{Bool, true}
@@ -24,16 +24,16 @@ pub record Common (n : ℕ) (p q : ℕ → Bool) : Type 0 where
 
 -- A buffer with an entry for each site, N in range, every set names sites of 1 to N and is not empty, and a common site for every two sets: setup gives
 -- none of the codes 13, 1, 2 and 3.
-abbrev pub MeetingAccepted : Type 0
-MeetingAccepted =
+abbrev pub MeetingCodeZero : Type 0
+MeetingCodeZero =
     (n : ℕ) (sets : List ℕ) → length sets ≡ siteLimit → SiteTo siteLimit n
     → ((k : ℕ) → SiteTo n k → names n (at 0 sets k) ≡ true)
     → ((k l : ℕ) → SiteTo n k → SiteTo n l → Common n (member (at 0 sets k)) (member (at 0 sets l)))
     → meetingCode n sets ≡ 0
 
--- Sets that get none of these and are equally large: none strictly contains another, so that setup's code is 0.
+-- Sets that get none of these codes, each with as many sites as the others: none strictly contains another, so that setup's code is 0.
 abbrev pub EqualAccepted : Type 0
 EqualAccepted =
-    (n width : ℕ) (sets : List ℕ) → meetingCode n sets ≡ 0
-    → ((k : ℕ) → SiteTo n k → count (member (at 0 sets k)) n ≡ width)
+    (n members : ℕ) (sets : List ℕ) → meetingCode n sets ≡ 0
+    → ((k : ℕ) → SiteTo n k → count (member (at 0 sets k)) n ≡ members)
     → setupCode n sets ≡ 0

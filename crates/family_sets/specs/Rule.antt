@@ -24,7 +24,7 @@ setsUpTo takes size (suc i) = setsUpTo takes size i ++ (setBy takes size (suc i)
 abbrev pub setsBy : (ℕ → ℕ → Bool) → ℕ → List ℕ
 setsBy takes size = setsUpTo takes size siteLimit
 
--- whether they meet, and the code that setup gives them
+-- the code of 13, 1, 2 and 3 that they get, and setup's code
 abbrev pub meetingBy : (ℕ → ℕ → Bool) → ℕ → ℕ
 meetingBy takes size = meetingCode size (setsBy takes size)
 

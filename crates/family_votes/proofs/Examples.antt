@@ -6,7 +6,7 @@ use mathlib.Core.Path.{_≡_, refl}
 use Rattle.basics.specs.Helpers.{all, any, lowest}
 use Rattle.model.specs.Tables.{at}
 use Rattle.model.specs.Sets.{member, setOf, meet, names, contains, strictlyContains, nested}
-use Rattle.model.specs.Setup.{sizeListed, allName, meetsEarlier, allMeet, minimalEarlier, allMinimal, meetingCode, setupCode}
+use Rattle.model.specs.Setup.{sizeListed, allName, meetsEarlier, allMeet, unnestedEarlier, allMinimal, eachCode, meetingCode, setupCode}
 use Rattle.family_sets.specs.Rule.{isEntry, setBy, setsUpTo, codeBy}
 use Rattle.family_votes.specs.Votes.{noneAbove, allZero, votesListed, voteSum, siteAfter, siteFrom, taken, exceedsHalf, runLength, takes}
 
@@ -21,7 +21,7 @@ main-desk = (refl, refl, refl, refl)
 
 -- Request 2.6: the set of site 2 strictly contains that of site 1, so setup rejects the family. Of votes 1, 1 and 1 all sets have two sites.
 contained : (codeBy (takes 4 (3 ∷ 1 ∷ 1 ∷ 1 ∷ [])) 4 ≡ 17) × (codeBy (takes 3 (1 ∷ 1 ∷ 1 ∷ [])) 3 ≡ 0)
-unfolding setOf isEntry any all runLength lowest exceedsHalf taken siteFrom siteAfter voteSum at setBy setsUpTo member meet names contains strictlyContains nested sizeListed allName meetsEarlier allMeet minimalEarlier allMinimal meetingCode setupCode
+unfolding setOf isEntry any all runLength lowest exceedsHalf taken siteFrom siteAfter voteSum at setBy setsUpTo member meet names contains strictlyContains nested sizeListed allName meetsEarlier allMeet unnestedEarlier allMinimal eachCode meetingCode setupCode
 contained = (refl, refl)
 
 -- Votes 0, 2, 0, 1, 0 have the sum 3: site 1, without votes, takes site 2; site 3 takes 3, 4, 5, 1 and 2.

@@ -7,7 +7,7 @@ use Rattle.rig.specs.Limits.{siteLimit, messageLimit, blankTable}
 use Rattle.rig.specs.Messages.{request}
 use Rattle.model.specs.Tables.{at, cell}
 use Rattle.model.specs.Sets.{member, setOf, meet, names, contains, strictlyContains, nested}
-use Rattle.model.specs.Setup.{sizeListed, allName, meetsEarlier, allMeet, minimalEarlier, allMinimal, meetingCode, setupCode, restingRig}
+use Rattle.model.specs.Setup.{sizeListed, allName, meetsEarlier, allMeet, unnestedEarlier, allMinimal, eachCode, meetingCode, setupCode, restingRig}
 use Rattle.model.specs.State.{Stored}
 use Rattle.model.specs.Shape.{isNumber, isGiven, setShaped, modeShaped, siteBlank, siteShaped, holderShaped, arbiterShaped, placeShaped, rigShaped, entryShaped, ownShaped, heirShaped, queuedShaped, everywhere, tablesShaped, numberShaped, plainShaped, aboutShaped, messageShaped, messagesShaped, wellShaped}
 use Rattle.model.specs.Settling.{weight, weights, rememberedIn, rememberedUpTo, rememberedCount, measure, measureLimit, MeasureReached}
@@ -26,7 +26,7 @@ fullest = record {
 }
 
 fullest-shaped : wellShaped fullest ≡ true
-unfolding fullest setOf at cell member meet names contains strictlyContains nested any all sizeListed allName meetsEarlier allMeet minimalEarlier allMinimal meetingCode setupCode isNumber isGiven setShaped modeShaped siteBlank siteShaped holderShaped arbiterShaped placeShaped rigShaped entryShaped ownShaped heirShaped queuedShaped everywhere tablesShaped numberShaped plainShaped aboutShaped messageShaped messagesShaped wellShaped
+unfolding fullest setOf at cell member meet names contains strictlyContains nested any all sizeListed allName meetsEarlier allMeet unnestedEarlier allMinimal eachCode meetingCode setupCode isNumber isGiven setShaped modeShaped siteBlank siteShaped holderShaped arbiterShaped placeShaped rigShaped entryShaped ownShaped heirShaped queuedShaped everywhere tablesShaped numberShaped plainShaped aboutShaped messageShaped messagesShaped wellShaped
 fullest-shaped = refl
 
 fullest-sum : measure fullest ≡ measureLimit

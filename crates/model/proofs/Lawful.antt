@@ -17,7 +17,7 @@ use Rattle.protocol.specs.System.{System, Lawful}
 use Rattle.model.specs.Tables.{at}
 use Rattle.basics.specs.Helpers.{any}
 use Rattle.model.specs.Sets.{member, meet, names}
-use Rattle.model.specs.Setup.{keptSets, allName, meetsEarlier, allMeet, minimalEarlier, allMinimal, setupCode}
+use Rattle.model.specs.Setup.{keptSets, allName, meetsEarlier, allMeet, unnestedEarlier, allMinimal, setupCode}
 use Rattle.model.specs.Priority.{key, comesBefore}
 use Rattle.basics.proofs.Basics.{by-bool, clash, and-split, all-at, all-same, any-at, any-of}
 use Rattle.model.proofs.Tables.{at-same}
@@ -170,13 +170,13 @@ module _ (n : ℕ) (sets : List ℕ) (a : Accepted n sets) where
         meet = all-same (meetsEarlier n (keptSets n sets)) (meetsEarlier n sets) n (λ k b c. rw (kept-at k b c) (all-same _ _ (pred k) (λ m d e. rw (kept-at m d (omega arith))))) ∙ a .meet;
       }
 
-  pub kept-minimal-at : (k : ℕ) → 1 ≤ k → k ≤ n → minimalEarlier n (keptSets n sets) k ≡ minimalEarlier n sets k
-  unfolding minimalEarlier
-  kept-minimal-at k b c = rw (kept-at k b c) (all-same _ _ (pred k) (λ m d e. rw (kept-at m d (omega arith))))
+  pub kept-unnested-at : (k : ℕ) → 1 ≤ k → k ≤ n → unnestedEarlier n (keptSets n sets) k ≡ unnestedEarlier n sets k
+  unfolding unnestedEarlier
+  kept-unnested-at k b c = rw (kept-at k b c) (all-same _ _ (pred k) (λ m d e. rw (kept-at m d (omega arith))))
 
   pub kept-minimal : allMinimal n (keptSets n sets) ≡ allMinimal n sets
   unfolding allMinimal
-  kept-minimal = all-same _ _ n kept-minimal-at
+  kept-minimal = all-same _ _ n kept-unnested-at
 
   -- "Entries past N are not read."
   pub kept-code : setupCode n (keptSets n sets) ≡ setupCode n sets

@@ -10,7 +10,7 @@ use native.Mathlib.Nat.{div-lt-iff-lt-mul, zero-div}
 use lib.Arith.{digits-mod}
 use lib.Pow.{pow-pos, shr-shr}
 use borrow.Author.Tests.{eqb-true, eqb-false, eq-eqb, ne-eqb, lt-ltb, le-ltb, ltb-true, ltb-false}
-use Rattle.basics.specs.Helpers.{all, any, count}
+use Rattle.basics.specs.Helpers.{any, count}
 use Rattle.model.specs.Sets.{member, meet, names, contains, strictlyContains, nested}
 use Rattle.basics.proofs.Basics.{by-bool, clash, and-split, and-second, all-at, all-of, any-of, any-none, count-filled}
 

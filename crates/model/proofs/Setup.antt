@@ -2,14 +2,14 @@
 use Prim.Native.Nat.{ℕ, _≤_, _<_}
 use mathlib.Core.Path.{_≡_, refl}
 use mathlib.Core.Logic.{_⊎_, inl, inr}
-use mathlib.Core.Bool.{Bool, true, false, cond}
+use mathlib.Core.Bool.{Bool, true, false, not, cond}
 use mathlib.Core.List.{List}
 use native.Mathlib.Omega.{arith}
 use lib.Dec.{eqb, leb}
 use lib.ListN.{length}
-use borrow.Author.Tests.{eqb-true, eq-eqb, leb-true, le-leb, lt-leb, not-false}
+use borrow.Author.Tests.{eqb-true, eqb-false, eq-eqb, leb-true, le-leb, lt-leb, not-false}
 use Rattle.rig.specs.Limits.{siteLimit}
-use Rattle.model.specs.Setup.{sizeListed, allName, allMeet, allMinimal, meetingCode, setupCode}
+use Rattle.model.specs.Setup.{sizeListed, allName, allMeet, allMinimal, eachCode, meetingCode, setupCode}
 use Rattle.basics.proofs.Basics.{by-bool, and-split, and-second}
 
 -- what the codes 13, 1, 2 and 3 let pass: all that demand 3 needs of the sets
@@ -25,20 +25,19 @@ pub not-coded : (t : Bool) (c x : ℕ) → 1 ≤ c → cond t c x ≡ 0 → (t �
 not-coded true c x h e = absurd (omega arith)
 not-coded false c x h e = (refl, e)
 
--- sets that setup accepts get none of these codes
+-- of two codes that are judged in turn neither is given
+pub neither-given : (a b : ℕ) → cond (not (eqb a 0)) a b ≡ 0 → (a ≡ 0) × (b ≡ 0)
+neither-given a b e = by-bool (eqb a 0) (λ t. (eqb-true a 0 t, rw t at e)) (λ t. absurd (eqb-false a 0 t (rw t at e)))
+
+-- sets that setup accepts get none of the codes 13, 1, 2 and 3
 pub setup-meeting : (n : ℕ) (sets : List ℕ) → setupCode n sets ≡ 0 → meetingCode n sets ≡ 0
 unfolding setupCode
-setup-meeting n sets e =
-    by-bool (eqb (meetingCode n sets) 0)
-    (λ t. eqb-true _ 0 t)
-    (λ t. rw t at e)
+setup-meeting n sets e = neither-given (meetingCode n sets) _ e .0
 
 -- and none of them strictly contains another
 pub setup-minimal : (n : ℕ) (sets : List ℕ) → setupCode n sets ≡ 0 → allMinimal n sets ≡ true
 unfolding setupCode
-setup-minimal n sets e =
-    let x = rw (setup-meeting n sets e) at e in
-    not-false _ (not-coded _ 17 _ (omega arith) x .0)
+setup-minimal n sets e = not-false _ (not-coded _ 17 _ (omega arith) (neither-given (meetingCode n sets) _ e .1) .0)
 
 -- the other way round: sets that get none of these codes get 0, or 17 where one strictly contains another
 pub meeting-setup : (n : ℕ) (sets : List ℕ) → meetingCode n sets ≡ 0 → setupCode n sets ≡ cond (allMinimal n sets) 0 17
@@ -50,22 +49,34 @@ zero-or-17 n sets e =
     let w = meeting-setup n sets e in
     by-bool (allMinimal n sets) (λ t. inl (rw t at w)) (λ t. inr (rw t at w))
 
--- what a code of 0 says
-pub meeting : (n : ℕ) (sets : List ℕ) → meetingCode n sets ≡ 0 → Accepted n sets
-unfolding meetingCode sizeListed
-meeting n sets e =
+-- what is known where 13, 1 and 2 are not given
+pub record Named (n : ℕ) (sets : List ℕ) : Type 0 where
+  pub long : length sets ≡ siteLimit
+  pub low : 1 ≤ n
+  pub high : n ≤ siteLimit
+  pub name : allName n sets ≡ true
+
+pub named : (n : ℕ) (sets : List ℕ) → eachCode n sets ≡ 0 → Named n sets
+unfolding eachCode sizeListed
+named n sets e =
     let a = not-coded _ 13 _ (omega arith) e in
     let b = not-coded _ 1 _ (omega arith) (a .1) in
     let c = not-coded _ 2 _ (omega arith) (b .1) in
-    let d = not-coded _ 3 _ (omega arith) (c .1) in
     let size = and-split (leb 1 n) (leb n siteLimit) (not-false _ (b .0)) in
     record {
       long = eqb-true (length sets) siteLimit (not-false _ (a .0));
       low = leb-true 1 n (size .0);
       high = leb-true n siteLimit (size .1);
       name = not-false _ (c .0);
-      meet = not-false _ (d .0);
     }
+
+-- and where 3 is not given either
+pub meeting : (n : ℕ) (sets : List ℕ) → meetingCode n sets ≡ 0 → Accepted n sets
+unfolding meetingCode
+meeting n sets e =
+    let w = neither-given (eachCode n sets) _ e in
+    let k = named n sets (w .0) in
+    record { long = k .long; low = k .low; high = k .high; name = k .name; meet = not-false _ (not-coded _ 3 _ (omega arith) (w .1) .0) }
 
 pub accepts : (n : ℕ) (sets : List ℕ) → setupCode n sets ≡ 0 → Accepted n sets
 accepts n sets e = meeting n sets (setup-meeting n sets e)
@@ -80,5 +91,5 @@ size-too-large n h = and-second (leb 1 n) (leb n siteLimit) (lt-leb n siteLimit 
 
 -- and the other way round
 pub accepted-meeting : (n : ℕ) (sets : List ℕ) → Accepted n sets → meetingCode n sets ≡ 0
-unfolding meetingCode
+unfolding eachCode meetingCode
 accepted-meeting n sets a = rw (eq-eqb (length sets) siteLimit (a .long), size-listed n (a .low) (a .high), a .name, a .meet)

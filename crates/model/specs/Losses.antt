@@ -1,5 +1,6 @@
 -- Request 2.3: "Saved texts with a fail numbered 0 are still read, and such a fail still counts as before." Demand 3 of every run in which, between
--- events, any fail under way may lose its number. Every state of a run of the version before is a state of such a run (the crate `model_earlier`).
+-- events, any fail under way may lose its number. Every state of a run of the version before, of sets that setup passes now, is a state of such a run (the
+-- crate `model_earlier`).
 use Prim.Native.Nat.{ℕ, suc}
 use mathlib.Core.Path.{_≡_}
 use mathlib.Core.Bool.{Bool, true, cond}

@@ -29,30 +29,30 @@ meetsEarlier n sets k = all (λ l. meet n (at 0 sets k) (at 0 sets l)) (pred k)
 unfoldable pub allMeet : ℕ → List ℕ → Bool
 allMeet n sets = all (λ k. meetsEarlier n sets k) n
 
--- set k neither strictly contains an earlier one nor is strictly contained in one
-unfoldable pub minimalEarlier : ℕ → List ℕ → ℕ → Bool
-minimalEarlier n sets k = all (λ l. not (nested n (at 0 sets k) (at 0 sets l))) (pred k)
+-- set k neither strictly contains an earlier one nor is strictly contained in an earlier one
+unfoldable pub unnestedEarlier : ℕ → List ℕ → ℕ → Bool
+unnestedEarlier n sets k = all (λ l. not (nested n (at 0 sets k) (at 0 sets l))) (pred k)
 
 -- Request 2.6, "by the minimality rule of source document 004": no set strictly contains another. "Equal sets remain allowed."
 unfoldable pub allMinimal : ℕ → List ℕ → Bool
-allMinimal n sets = all (λ k. minimalEarlier n sets k) n
+allMinimal n sets = all (λ k. unnestedEarlier n sets k) n
 
 -- "Setup. 13 if the buffer of sets is not 31 entries long; 1 if N is not 1 to 31; 2 if a set is empty or names a site
--- outside 1 to N; 3 if two sets share no site. Entries past N are not read." These four alone: whether sets meet as they must
-unfoldable pub meetingCode : ℕ → List ℕ → ℕ
-meetingCode n sets =
+-- outside 1 to N": the codes of N and of each set by itself. "Entries past N are not read."
+unfoldable pub eachCode : ℕ → List ℕ → ℕ
+eachCode n sets =
     cond (not (eqb (length sets) siteLimit)) 13
     (cond (not (sizeListed n)) 1
     (cond (not (allName n sets)) 2
-    (cond (not (allMeet n sets)) 3
-    0)))
+    0))
 
--- Setup's code. Request 2.6: "17 at setup, straight after 3."
+-- then "3 if two sets share no site"
+unfoldable pub meetingCode : ℕ → List ℕ → ℕ
+meetingCode n sets = let code = eachCode n sets in cond (not (eqb code 0)) code (cond (not (allMeet n sets)) 3 0)
+
+-- then, by request 2.6, "17 at setup, straight after 3": setup's code
 unfoldable pub setupCode : ℕ → List ℕ → ℕ
-setupCode n sets =
-    cond (not (eqb (meetingCode n sets) 0)) (meetingCode n sets)
-    (cond (not (allMinimal n sets)) 17
-    0)
+setupCode n sets = let code = meetingCode n sets in cond (not (eqb code 0)) code (cond (not (allMinimal n sets)) 17 0)
 
 abbrev pub restingSite : Site
 restingSite = record { mode = Rest; clock = 0 }

@@ -23,7 +23,7 @@ Unnumbered s = lostAll (underWay s) ≡ underWay s
 abbrev pub Minimal : Stored → Type 0
 Minimal s = allMinimal (sizeOf (s .tables)) (setsOf (s .tables)) ≡ true
 
--- A state that is well shaped for the version before is so for this one, and no fail under way has a number.
+-- Such a state that is well shaped for the version before is so for this one, and no fail under way has a number.
 unfoldable pub EarlierShaped : Type 0
 EarlierShaped = (s : Stored) → Minimal s → Earlier.wellShaped s ≡ true → (wellShaped s ≡ true) × Unnumbered s
 
@@ -31,12 +31,12 @@ EarlierShaped = (s : Stored) → Minimal s → Earlier.wellShaped s ≡ true →
 unfoldable pub withoutNumbers : Stored → Answer → Answer
 withoutNumbers s a = answer (a .code) (cond (eqb (a .code) 0) (withLost (λ i. true) (a .next)) s)
 
--- One event on a state without numbered fails: the version before has the code of this version, and leaves what this one leaves once every fail has
+-- One event on such a state without numbered fails: the version before has the code of this version, and leaves what this one leaves once every fail has
 -- lost its number.
 unfoldable pub EarlierEvent : Type 0
 EarlierEvent = (s : Stored) (e : Event) → Minimal s → Unnumbered s → Earlier.event s e ≡ withoutNumbers s (event s e)
 
--- Every state of a run of the version before is a state of a run of this version in which fails lose their numbers.
+-- Every state of a run of the version before, of sets that setup passes now, is a state of a run of this version in which fails lose their numbers.
 unfoldable pub EarlierCovered : Type 0
 EarlierCovered =
     (n : ℕ) (sets : List ℕ) (list : List Message) (es : List Event) →

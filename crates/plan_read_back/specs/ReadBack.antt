@@ -29,7 +29,7 @@ abbrev pub FamilySetUp : Type 0
 FamilySetUp = (f : Family) → listed f ≡ true → (rest : List ℕ) → output (familyText f ++ rest) ≡ transcript (ready (sizeOf f) (setsOf f)) [] rest
 
 -- a family by votes sets up where setup accepts it, and stops the player with 17 where one of its sets strictly contains another
-abbrev pub VotesSetUp : Type 0
-VotesSetUp =
+abbrev pub VotesPlayed : Type 0
+VotesPlayed =
     (n : ℕ) (votes : List ℕ) → votesCode n votes siteLimit ≡ 0
     → (rest : List ℕ) → output (votesText n votes ++ rest) ≡ playedBehind n (setsByVotes n votes) rest

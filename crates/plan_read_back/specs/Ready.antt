@@ -22,6 +22,6 @@ ready n sets = record {
   state = fresh n sets (start .state .list);
 }
 
--- the lines of sets that meet, with `rest` behind them: it is played on the fresh rig where setup accepts the sets; request 2.6: else the player stops with 17
+-- what the lines of sets that meet print, with `rest` behind them: where setup accepts the sets, it is played on their fresh rig; else the player stops
 unfoldable pub playedBehind : ℕ → List ℕ → List ℕ → List ℕ
-playedBehind n sets rest = cond (eqb (setupCode n sets) 0) (transcript (ready n sets) [] rest) (stopLine 17 (faultLine n sets))
+playedBehind n sets rest = cond (eqb (setupCode n sets) 0) (transcript (ready n sets) [] rest) (stopLine (setupCode n sets) (faultLine n sets))

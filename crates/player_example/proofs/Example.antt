@@ -7,7 +7,7 @@ use mathlib.Core.List.{List, [], _∷_, _++_}
 use Rattle.model.specs.Tables.{at, put, cell}
 use Rattle.basics.specs.Helpers.{all, any, count, lowest, first, withoutFirst}
 use Rattle.model.specs.Sets.{member, meet, names, contains, strictlyContains, nested}
-use Rattle.model.specs.Setup.{sizeListed, allName, meetsEarlier, allMeet, minimalEarlier, allMinimal, meetingCode, setupCode, keptSets, freshRig}
+use Rattle.model.specs.Setup.{sizeListed, allName, meetsEarlier, allMeet, unnestedEarlier, allMinimal, eachCode, meetingCode, setupCode, keptSets, freshRig}
 use Rattle.model.specs.State.{freshTables, deskOf, withDesk, withAccepted}
 use Rattle.model.specs.Priority.{comesBefore, headWith, head}
 use Rattle.model.specs.Ask.{requests, asked}
@@ -70,5 +70,5 @@ pub printedText :
     ∷ "step=12 code=0 inside=0 waiting=0 flying=0"
     ∷ "step=13 code=7 inside=0 waiting=0 flying=0"
     ∷ [])
-unfolding at put cell all any count member meet names contains strictlyContains nested sizeListed allName meetsEarlier allMeet minimalEarlier allMinimal meetingCode setupCode keptSets freshRig freshTables deskOf withDesk withAccepted comesBefore headWith head requests asked handOn handOns left headOf nextHeir granted grantedHead clockRaised failFormer inquireOrFail answers queuedUp onRequest inquireIfBefore headNamed heirTakesOver holderReleases fromHolder isEarly earlyRelease onRelease onYield failedSet yielded allHeld entered taken enteredOrYielded takes onReply remembered yieldedOrRemembered onInquire mustYield yieldedIf yieldedUpTo failCounts onFail onTransfer between first withoutFirst delivered isNumber isGiven setShaped modeShaped siteBlank siteShaped holderShaped arbiterShaped placeShaped rigShaped entryShaped ownShaped heirShaped queuedShaped everywhere numberShaped plainShaped releaseShaped aboutShaped messageShaped messagesShaped tablesShaped wellShaped actor sitesNamed takenOff attempt attempted numbersUpTo numbersFit limitCode padded acceptedState judged eventAt settled played tested event fresh waitingCount lowest insideUpTo lineOf printed allDigits noLeadingZero value number longer parts before allNumbers numbers ascends siteBit withSites setLine one moveLine starts form eventForm meaningOf digits decimal stepLine counted sizeIn setIn eventIn onSize allGiven onSet printedLine onEvent atStage onLine endsAt onEnd start transcript output
+unfolding at put cell all any count member meet names contains strictlyContains nested sizeListed allName meetsEarlier allMeet unnestedEarlier allMinimal eachCode meetingCode setupCode keptSets freshRig freshTables deskOf withDesk withAccepted comesBefore headWith head requests asked handOn handOns left headOf nextHeir granted grantedHead clockRaised failFormer inquireOrFail answers queuedUp onRequest inquireIfBefore headNamed heirTakesOver holderReleases fromHolder isEarly earlyRelease onRelease onYield failedSet yielded allHeld entered taken enteredOrYielded takes onReply remembered yieldedOrRemembered onInquire mustYield yieldedIf yieldedUpTo failCounts onFail onTransfer between first withoutFirst delivered isNumber isGiven setShaped modeShaped siteBlank siteShaped holderShaped arbiterShaped placeShaped rigShaped entryShaped ownShaped heirShaped queuedShaped everywhere numberShaped plainShaped releaseShaped aboutShaped messageShaped messagesShaped tablesShaped wellShaped actor sitesNamed takenOff attempt attempted numbersUpTo numbersFit limitCode padded acceptedState judged eventAt settled played tested event fresh waitingCount lowest insideUpTo lineOf printed allDigits noLeadingZero value number longer parts before allNumbers numbers ascends siteBit withSites setLine one moveLine starts form eventForm meaningOf digits decimal stepLine counted sizeIn setIn eventIn onSize allGiven onSet printedLine onEvent atStage onLine endsAt onEnd start transcript output
 printedText = refl

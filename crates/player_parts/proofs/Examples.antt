@@ -6,7 +6,7 @@ use lib.ListN.{replicate}
 use Rattle.basics.specs.Helpers.{all, count, lowest}
 use Rattle.model.specs.Tables.{at, put, cell}
 use Rattle.model.specs.Sets.{member, names}
-use Rattle.model.specs.Setup.{sizeListed, allName, meetsEarlier, allMeet, minimalEarlier, allMinimal, meetingCode, setupCode, keptSets, freshRig}
+use Rattle.model.specs.Setup.{sizeListed, allName, meetsEarlier, allMeet, unnestedEarlier, allMinimal, eachCode, meetingCode, setupCode, keptSets, freshRig}
 use Rattle.model.specs.State.{freshTables, deskOf, withDesk, withAccepted}
 use Rattle.model.specs.Ask.{requests, asked}
 use Rattle.model.specs.Shape.{isNumber, setShaped, modeShaped, siteBlank, siteShaped, holderShaped, arbiterShaped, placeShaped, rigShaped, entryShaped, ownShaped, heirShaped, queuedShaped, everywhere, messagesShaped, tablesShaped, wellShaped}
@@ -32,7 +32,7 @@ abbrev uncut : List ℕ
 uncut = sitesWord ++ (49 ∷ 10 ∷ setWord ++ (49 ∷ 10 ∷ askWord ++ (49 ∷ 10 ∷ [])))
 
 three-lines : (flatten cut ≡ uncut) × (written start [] cut ≡ stepLine 1 0 0 1 1) × (output uncut ≡ stepLine 1 0 0 1 1)
-unfolding flatten at put cell all count member names sizeListed allName meetsEarlier allMeet minimalEarlier allMinimal meetingCode setupCode keptSets freshRig freshTables deskOf withDesk withAccepted requests asked isNumber setShaped modeShaped siteBlank siteShaped holderShaped arbiterShaped placeShaped rigShaped entryShaped ownShaped heirShaped queuedShaped everywhere messagesShaped tablesShaped wellShaped actor sitesNamed attempt attempted numbersUpTo numbersFit limitCode padded acceptedState judged eventAt settled played tested event fresh waitingCount lowest insideUpTo lineOf allDigits noLeadingZero value number longer parts before allNumbers numbers ascends siteBit withSites setLine one starts form eventForm meaningOf counted sizeIn setIn eventIn onSize allGiven onSet printedLine onEvent atStage onLine endsAt onEnd start transcript output reads written digits decimal stepLine
+unfolding flatten at put cell all count member names sizeListed allName meetsEarlier allMeet unnestedEarlier allMinimal eachCode meetingCode setupCode keptSets freshRig freshTables deskOf withDesk withAccepted requests asked isNumber setShaped modeShaped siteBlank siteShaped holderShaped arbiterShaped placeShaped rigShaped entryShaped ownShaped heirShaped queuedShaped everywhere messagesShaped tablesShaped wellShaped actor sitesNamed attempt attempted numbersUpTo numbersFit limitCode padded acceptedState judged eventAt settled played tested event fresh waitingCount lowest insideUpTo lineOf allDigits noLeadingZero value number longer parts before allNumbers numbers ascends siteBit withSites setLine one starts form eventForm meaningOf counted sizeIn setIn eventIn onSize allGiven onSet printedLine onEvent atStage onLine endsAt onEnd start transcript output reads written digits decimal stepLine
 three-lines = (refl, refl, refl)
 
 -- what is kept of a line that a part cuts, up to 96 bytes; byte 97 ends the run, wherever the cuts are

@@ -41,7 +41,8 @@ ReadBack = (s : Stored) → IsState s → wellShaped s ≡ true → readText (te
 unfoldable pub WrittenBack : Type 0
 WrittenBack = (text : List ℕ) (s : Stored) → readText text ≡ some s → (wellShaped s ≡ true) × (textOf s ≡ text)
 
--- Request 2.3: where no fail under way has a number, the text is the one of the version before. So its texts are read, and written back as they are.
+-- Request 2.3: where no fail under way has a number, the text is the one of the version before. So its texts of states that are well shaped now are read,
+-- and written back as they are.
 unfoldable pub FirstSpelled : Type 0
 FirstSpelled = (s : Stored) → wellShaped s ≡ true → lostAll (underWay s) ≡ underWay s → textIn firstSpelling s ≡ textOf s
 

@@ -5,18 +5,17 @@ use mathlib.Core.Path.{_≡_, refl, sym, ap, _∙_}
 use mathlib.Core.Logic.{_≢_}
 use mathlib.Core.Bool.{true, not, _&&_, cond}
 use mathlib.Core.List.{List}
-use native.Mathlib.Omega.{arith}
-use lib.Dec.{eqb, leb}
+use lib.Dec.{eqb}
 use lib.ListN.{length}
-use borrow.Author.Tests.{eqb-true, eq-eqb, ne-eqb, leb-true, not-false}
+use borrow.Author.Tests.{eq-eqb, ne-eqb}
 use Rattle.rig.specs.Limits.{siteLimit}
 use Rattle.basics.proofs.Basics.{by-bool, and-split, all-both, all-lowest, lowest-same}
-use Rattle.model.specs.Setup.{sizeListed, allName, allMeet, allMinimal, meetingCode, setupCode, keptSets}
-use Rattle.model.proofs.Setup.{not-coded, Accepted}
-use Rattle.model.proofs.Lawful.{kept-accepted, kept-minimal-at}
-use Rattle.setup_rules.specs.declared.Rule.the-variants.{Names, Meets, Minimal, Fits}
+use Rattle.model.specs.Setup.{allName, allMeet, allMinimal, eachCode, meetingCode, setupCode, keptSets}
+use Rattle.model.proofs.Setup.{Accepted, named}
+use Rattle.model.proofs.Lawful.{kept-accepted, kept-unnested-at}
+use Rattle.setup_rules.specs.declared.Rule.the-variants.{Names, Meets, Fits}
 use Rattle.setup_rules.specs.Rules.{keepsRule}
-use Rattle.setup_faults.specs.Faults.{eachCode, firstBreaking, faultLine}
+use Rattle.setup_faults.specs.Faults.{firstBreaking, faultLine}
 
 module _ (n : ℕ) (sets : List ℕ) where
   pub all-name : allName n sets ≡ eqb (firstBreaking Names n sets) 0
@@ -31,37 +30,19 @@ module _ (n : ℕ) (sets : List ℕ) where
   unfolding allMeet allMinimal firstBreaking keepsRule
   all-fit = sym (all-both _ _ n) ∙ all-lowest _ n
 
-  -- a set by itself, or N, is at fault
+  -- N or a set by itself is at fault
   pub each-refused : eachCode n sets ≢ 0 → (meetingCode n sets ≡ eachCode n sets) × (setupCode n sets ≡ eachCode n sets)
-  unfolding eachCode meetingCode setupCode
-  each-refused h =
-      by-bool (eqb (length sets) siteLimit)
-      (λ a. by-bool (sizeListed n)
-      (λ b. by-bool (allName n sets)
-      (λ d. absurd (h (rw (a, b, d))))
-      (λ d. rw (a, b, d) (refl, refl)))
-      (λ b. rw (a, b) (refl, refl)))
-      (λ a. rw a (refl, refl))
+  unfolding meetingCode setupCode
+  each-refused h = let e = ne-eqb (eachCode n sets) 0 h in rw (e, e) (refl, refl)
 
   -- none is: the codes 3 and 17 are left
   module _ (e : eachCode n sets ≡ 0) where
-    passed : (eqb (length sets) siteLimit ≡ true) × (sizeListed n ≡ true) × (allName n sets ≡ true)
-    unfolding eachCode
-    passed =
-        let a = not-coded _ 13 _ (omega arith) e in
-        let b = not-coded _ 1 _ (omega arith) (a .1) in
-        let c = not-coded _ 2 _ (omega arith) (b .1) in
-        (not-false _ (a .0), not-false _ (b .0), not-false _ (c .0))
-
-    pub each-known : (n ≤ siteLimit) × (length sets ≡ siteLimit) × (allName n sets ≡ true)
-    unfolding sizeListed
-    each-known =
-        let (long, size, named) = passed in
-        (leb-true n siteLimit (and-split (leb 1 n) (leb n siteLimit) size .1), eqb-true (length sets) siteLimit long, named)
+    pub comparable : (n ≤ siteLimit) × (length sets ≡ siteLimit) × (allName n sets ≡ true)
+    comparable = let k = named n sets e in (k .high, k .long, k .name)
 
     pub each-meeting : meetingCode n sets ≡ cond (allMeet n sets) 0 3
     unfolding meetingCode
-    each-meeting = let (long, size, named) = passed in rw (long, size, named) (by-bool (allMeet n sets) (λ t. rw t) (λ t. rw t))
+    each-meeting = rw e (by-bool (allMeet n sets) (λ t. rw t) (λ t. rw t))
 
     each-setup : setupCode n sets ≡ cond (allMeet n sets) (cond (allMinimal n sets) 0 17) 3
     unfolding setupCode
@@ -91,4 +72,4 @@ module _ (n : ℕ) (sets : List ℕ) where
     kept-line =
         let b = kept-accepted n sets a in
         rw (a .name, a .meet, b .name, b .meet)
-        (ap (λ k. k + 1) (lowest-same _ _ n (λ k l m. ap not (kept-minimal-at n sets a k l m))))
+        (ap (λ k. k + 1) (lowest-same _ _ n (λ k l m. ap not (kept-unnested-at n sets a k l m))))

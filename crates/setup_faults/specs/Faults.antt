@@ -2,13 +2,10 @@
 use Prim.Native.Nat.{ℕ, _+_}
 use mathlib.Core.Bool.{not, cond}
 use mathlib.Core.List.{List}
-use lib.Dec.{eqb}
-use lib.ListN.{length}
-use Rattle.rig.specs.Limits.{siteLimit}
 use Rattle.basics.specs.Helpers.{lowest}
-use Rattle.model.specs.Setup.{sizeListed, allName, allMeet}
+use Rattle.model.specs.Setup.{allName, allMeet}
 use Rattle.setup_rules.specs.declared.Rule.{Rule}
-use Rattle.setup_rules.specs.declared.Rule.the-variants.{Names, Meets, Minimal}
+use Rattle.setup_rules.specs.declared.Rule.the-variants.{Names, Meets, Unnested}
 use Rattle.setup_rules.specs.Rules.{keepsRule}
 
 -- the first set that breaks a rule, 0 none: "for 2 the first faulty set, for 3 the first set that misses an earlier one"; request 2.6: "the first set that
@@ -21,12 +18,4 @@ unfoldable pub faultLine : ℕ → List ℕ → ℕ
 faultLine n sets =
     cond (not (allName n sets)) (firstBreaking Names n sets + 1)
     (cond (not (allMeet n sets)) (firstBreaking Meets n sets + 1)
-    (firstBreaking Minimal n sets + 1))
-
--- what setup asks of N and of each set by itself: its codes 13, 1 and 2 alone
-unfoldable pub eachCode : ℕ → List ℕ → ℕ
-eachCode n sets =
-    cond (not (eqb (length sets) siteLimit)) 13
-    (cond (not (sizeListed n)) 1
-    (cond (not (allName n sets)) 2
-    0))
+    (firstBreaking Unnested n sets + 1))

@@ -6,13 +6,13 @@ ghost use mathlib.Core.Path.{_≡_};
 ghost use Prim.Native.Nat.{_≤_};
 ghost use lib.ListN.{length};
 ghost use Rattle.rig.specs.Limits.{siteLimit};
-ghost use Rattle.model.specs.Setup.{meetingCode, setupCode};
-ghost use Rattle.setup_rules.specs.Rules.{Comparable};
-ghost use Rattle.setup_faults.specs.Faults.{eachCode, firstBreaking, faultLine};
+ghost use Rattle.model.specs.Setup.{eachCode, meetingCode, setupCode};
+ghost use Rattle.setup_rules.specs.Rules.{MayCompare};
+ghost use Rattle.setup_faults.specs.Faults.{firstBreaking, faultLine};
 
 // The first site whose set breaks the rule, 0 none.
 fn first_breaking(rule: Rule, size: u64, sets: &[u64]) -> u64
-    requires { ⌜ (size ≤ siteLimit) × (length (now sets) ≡ siteLimit) × Comparable rule size (now sets) ⌝ }
+    requires { ⌜ (size ≤ siteLimit) × (length (now sets) ≡ siteLimit) × MayCompare rule size (now sets) ⌝ }
     ensures { λ r. ⌜ r ≡ firstBreaking rule size (now (sets .entry)) ⌝ }
 {
     for k in 0..size {
@@ -56,7 +56,7 @@ pub fn judge_meeting(size: u64, sets: &[u64]) -> u64
     0
 }
 
-// Setup's code: these, then 17. Sets that pass are compared once; only of others it is asked which of the two codes they get.
+// Setup's code: 13, 1, 2, 3, then 17. Sets that pass are compared once; of others it is then asked whether 3 or 17 is due.
 pub fn judge(size: u64, sets: &[u64]) -> u64
     ensures { λ r. ⌜ r ≡ setupCode size (now (sets .entry)) ⌝ }
 {
@@ -84,5 +84,5 @@ pub fn fault_line(size: u64, sets: &[u64]) -> u64
     if missing != 0 {
         return missing + 1;
     }
-    first_breaking(Rule::Minimal, size, sets) + 1
+    first_breaking(Rule::Unnested, size, sets) + 1
 }

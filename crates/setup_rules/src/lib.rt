@@ -1,4 +1,4 @@
-// What setup asks of each request set: three rules, and whether a set keeps one.
+// What setup asks of each request set, as rules, and whether a set keeps one.
 ghost use mathlib.Core.Path.{_≡_};
 ghost use mathlib.Core.Bool.{true, not, _&&_};
 ghost use Prim.Native.Nat.{ℕ, _<_, _≤_, _+_, _^_};
@@ -6,14 +6,14 @@ ghost use lib.ListN.{length};
 ghost use Rattle.rig.specs.Limits.{siteLimit};
 ghost use Rattle.model.specs.Sets.{names, meet, nested};
 ghost use Rattle.model.specs.Setup.{allName};
-ghost use Rattle.setup_rules.specs.Rules.{pairKeeps, earlierKeep, keepsRule, Comparable};
+ghost use Rattle.setup_rules.specs.Rules.{pairKeeps, earlierKeep, keepsRule, MayCompare};
 
-// To name sites 1 to `size` and no other; to share a site with each earlier set; to be minimal, neither to contain strictly an earlier set nor to be
-// contained strictly in one; and the last two at once.
+// Not to be empty and to name no site outside 1 to `size`; to share a site with each earlier set; neither to contain strictly an earlier set nor to be
+// contained strictly in one; and the last two together.
 pub enum Rule {
     Names,
     Meets,
-    Minimal,
+    Unnested,
     Fits,
 }
 
@@ -53,7 +53,7 @@ fn pair_keeps(rule: Rule, a: u64, b: u64) -> bool
     match rule {
         Rule::Names => true,
         Rule::Meets => a & b != 0,
-        Rule::Minimal => !are_nested(a, b),
+        Rule::Unnested => !are_nested(a, b),
         Rule::Fits => fit(a, b),
     }
 }
@@ -72,15 +72,15 @@ fn earlier_keep(rule: Rule, size: u64, sets: &[u64], k: u64) -> bool
     true
 }
 
-// An inner call: the set at index k keeps the rule. Sets are compared once all of them name sites 1 to `size` and no other.
+// An inner call: the set at index k keeps the rule. Sets are compared only where none is empty or names a site outside 1 to `size`.
 pub fn keeps(rule: Rule, size: u64, sets: &[u64], k: u64) -> bool
-    requires { ⌜ (size ≤ siteLimit) × (length (now sets) ≡ siteLimit) × (k < size) × Comparable rule size (now sets) ⌝ }
+    requires { ⌜ (size ≤ siteLimit) × (length (now sets) ≡ siteLimit) × (k < size) × MayCompare rule size (now sets) ⌝ }
     ensures { λ r. ⌜ r ≡ keepsRule rule size (now (sets .entry)) (k + 1) ⌝ }
 {
     match rule {
         Rule::Names => names_sites(size, sets[k as usize]),
         Rule::Meets => earlier_keep(Rule::Meets, size, sets, k),
-        Rule::Minimal => earlier_keep(Rule::Minimal, size, sets, k),
+        Rule::Unnested => earlier_keep(Rule::Unnested, size, sets, k),
         Rule::Fits => earlier_keep(Rule::Fits, size, sets, k),
     }
 }

@@ -26,7 +26,7 @@ returns c =
 setup-lines-requires : tie.Need-setup-lines-requires
 setup-lines-requires c κs =
     let e = c .before .before .before .before .generate-by-votes .ensures in
-    meeting _ _ (e .1 (c .before .before .if1 .left) .passes) .high
+    meeting _ _ (e .1 (c .before .before .if1 .left) .meeting) .high
 
 returns-2 : tie.Need-returns-2
 returns-2 c =

@@ -1,6 +1,5 @@
 -- `fault_line`: the first faulty set where there is one, else the first that misses an earlier one, else the first that is nested with one.
-use mathlib.Core.Path.{_≡_, sym, _∙_}
-use mathlib.Core.Bool.{true}
+use mathlib.Core.Path.{sym, _∙_}
 use native.Mathlib.Omega.{arith}
 use borrow.Author.Tests.{eq-eqb, ne-eqb}
 use Rattle.basics.proofs.Basics.{lowest-within}

@@ -1,7 +1,7 @@
 -- `judge`: what is asked of each set, then whether all fit, then which code is due.
 use mathlib.Core.Path.{sym, _∙_}
 use borrow.Author.Needs.{needs}
-use Rattle.setup_faults.proofs.Rules.{each-refused, each-known, told-0, told-3, told-17}
+use Rattle.setup_faults.proofs.Rules.{each-refused, comparable, told-0, told-3, told-17}
 use Rattle.setup_faults.proofs.judge.Statement.{statement}
 use Rattle.setup_faults.proofs.judge.Tie as tie
 
@@ -14,7 +14,7 @@ returns c =
     e ∙ sym (each-refused _ _ (rw e at (c .if1 .taken)) .1)
 
 first-breaking-requires : tie.Need-first-breaking-requires
-first-breaking-requires c κs = each-known _ _ (sym (c .before .judge-each .ensures) ∙ c .if1 .left)
+first-breaking-requires c κs = comparable _ _ (sym (c .before .judge-each .ensures) ∙ c .if1 .left)
 
 returns-2 : tie.Need-returns-2
 returns-2 c =
@@ -22,7 +22,7 @@ returns-2 c =
     sym (told-0 _ _ z (sym (c .before .first-breaking .ensures) ∙ c .if2 .taken))
 
 first-breaking-requires-2 : tie.Need-first-breaking-requires-2
-first-breaking-requires-2 c κs = each-known _ _ (sym (c .before .before .before .judge-each .ensures) ∙ c .before .before .if1 .left)
+first-breaking-requires-2 c κs = comparable _ _ (sym (c .before .before .before .judge-each .ensures) ∙ c .before .before .if1 .left)
 
 returns-3 : tie.Need-returns-3
 returns-3 c =

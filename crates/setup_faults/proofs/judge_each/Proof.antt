@@ -2,9 +2,8 @@
 use mathlib.Core.Path.{sym, _∙_}
 use native.Mathlib.Omega.{arith}
 use borrow.Author.Tests.{eq-eqb, ne-eqb}
-use Rattle.model.specs.Setup.{sizeListed}
+use Rattle.model.specs.Setup.{sizeListed, eachCode}
 use Rattle.model.proofs.Setup.{size-listed, size-too-large}
-use Rattle.setup_faults.specs.Faults.{eachCode}
 use Rattle.setup_faults.proofs.Rules.{all-name}
 use Rattle.setup_faults.proofs.judge_each.Statement.{statement}
 use Rattle.setup_faults.proofs.judge_each.Tie as tie

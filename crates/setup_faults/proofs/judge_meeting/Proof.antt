@@ -2,7 +2,7 @@
 use mathlib.Core.Path.{sym, _∙_}
 use borrow.Author.Needs.{needs}
 use borrow.Author.Tests.{eq-eqb, ne-eqb}
-use Rattle.setup_faults.proofs.Rules.{all-meet, each-refused, each-known, each-meeting}
+use Rattle.setup_faults.proofs.Rules.{all-meet, each-refused, comparable, each-meeting}
 use Rattle.setup_faults.proofs.judge_meeting.Statement.{statement}
 use Rattle.setup_faults.proofs.judge_meeting.Tie as tie
 
@@ -15,7 +15,7 @@ returns c =
     e ∙ sym (each-refused _ _ (rw e at (c .if1 .taken)) .0)
 
 first-breaking-requires : tie.Need-first-breaking-requires
-first-breaking-requires c κs = each-known _ _ (sym (c .before .judge-each .ensures) ∙ c .if1 .left)
+first-breaking-requires c κs = comparable _ _ (sym (c .before .judge-each .ensures) ∙ c .if1 .left)
 
 returns-2 : tie.Need-returns-2
 returns-2 c =

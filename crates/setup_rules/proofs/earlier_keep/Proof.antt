@@ -1,6 +1,6 @@
 -- `earlier_keep`: the set at index k and each one passed so far are as the rule asks.
 use Prim.Native.Nat.{ℕ, suc, _^_, _≤_, _<_, _-_}
-use mathlib.Core.Path.{_≡_, sym, _∙_}
+use mathlib.Core.Path.{_≡_, sym}
 use mathlib.Core.Bool.{true}
 use mathlib.Core.List.{List}
 use native.Mathlib.Omega.{arith}

@@ -4,7 +4,7 @@ use native.Mathlib.Numerals.{add-one}
 use borrow.Author.Needs.{needs}
 use Rattle.basics.proofs.Basics.{all-both}
 use Rattle.model.specs.Tables.{at}
-use Rattle.model.specs.Setup.{meetsEarlier, minimalEarlier}
+use Rattle.model.specs.Setup.{meetsEarlier, unnestedEarlier}
 use Rattle.setup_rules.specs.Rules.{pairKeeps, earlierKeep, keepsRule}
 use Rattle.setup_rules.proofs.keeps.Statement.{statement}
 use Rattle.setup_rules.proofs.keeps.Tie as tie
@@ -54,11 +54,11 @@ unfolding keepsRule earlierKeep pairKeeps meetsEarlier
 returns-2 c = rw (c .before .enum-told2 .given .1) (c .earlier-keep .ensures)
 
 returns-3 : tie.Need-returns-3
-unfolding keepsRule earlierKeep pairKeeps minimalEarlier
+unfolding keepsRule earlierKeep pairKeeps unnestedEarlier
 returns-3 c = rw (c .before .enum-told3 .given .1) (c .earlier-keep2 .ensures)
 
 returns-4 : tie.Need-returns-4
-unfolding keepsRule earlierKeep pairKeeps meetsEarlier minimalEarlier
+unfolding keepsRule earlierKeep pairKeeps meetsEarlier unnestedEarlier
 returns-4 c = rw (c .before .enum-told4 .given .1) (c .earlier-keep3 .ensures ∙ all-both _ _ _)
 
 pub keeps-spec : {M : Type 1} → statement M
