@@ -1,4 +1,4 @@
-// A caller of the calls on families, and of `setup::setup`: each promise follows from their contracts alone.
+// A caller of the calls on families, of `setup::setup` and of `setup_faults::judge_meeting`: each promise follows from their contracts alone.
 use families::billiard_set;
 use families::generate;
 use families::generate_by_votes;
@@ -7,6 +7,7 @@ use rig::Rig;
 use setup::Answer;
 use setup::resting;
 use setup::setup;
+use setup_faults::judge_meeting;
 ghost use mathlib.Core.Path.{_≡_};
 ghost use mathlib.Core.Logic.{_⊎_};
 ghost use Rattle.rig.specs.Limits.{siteLimit};
@@ -42,6 +43,18 @@ pub fn votes_rig(n: u64, votes: &[u64; Rig::SITES]) -> Answer
         };
     }
     setup(n, &sets)
+}
+
+// Generates the sets of n sites by their votes and judges them by the codes 13, 1, 2 and 3 alone. Where they are made, they get none of these.
+pub fn votes_meeting(n: u64, votes: &[u64; Rig::SITES]) -> u64
+    ensures { λ r. ⌜ r ≡ votesCode n (now (votes .entry)) siteLimit ⌝ }
+{
+    let mut sets = [0u64; Rig::SITES];
+    let code = generate_by_votes(n, votes, &mut sets);
+    if code != 0 {
+        return code;
+    }
+    judge_meeting(n, &sets)
 }
 
 // The sets of sites 11 and 34 in the billiard of q = 9, by the rule itself.
