@@ -1,5 +1,7 @@
 // How an arbiter grants, and names its holder the next heir. The desk is that of the arbiter's own site, and messages go to `out`, behind the
 // first `count` rows.
+#![tactic(auto)]
+
 ghost use Rattle.rig.specs.Limits.{SiteNumber};
 ghost use Rattle.model.specs.Arbiter.{next_heir, granted, granted_head};
 ghost use Rattle.list_rows.specs.Rows.{Appends};

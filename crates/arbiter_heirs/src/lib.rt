@@ -1,5 +1,7 @@
 // What an arbiter does when its holder has released with a queued heir, as model/specs/Arbiter defines it. The desk is that of the
 // arbiter's own site, and messages go to `out`, behind the first `count` rows.
+#![tactic(auto)]
+
 ghost use Rattle.rig.specs.Limits.{SiteNumber};
 ghost use Rattle.model.specs.Arbiter.{head_named, heir_takes_over};
 ghost use Rattle.list_rows.specs.Rows.{Appends};

@@ -1,5 +1,7 @@
 // The holder of an arbiter's permission: whether a message is from it, or from a queued site that got the permission from it; how it is
 // set; what the arbiter sends it. The desk is that of the arbiter's own site.
+#![tactic(auto)]
+
 ghost use Rattle.std.specs.Prelude.{◌≡◌, ◌+◌, ◌^◌, ◌<◌};
 ghost use Rattle.rig.specs.Limits.{SiteNumber};
 ghost use Rattle.rig.specs.Messages.{inquire, transfer};

@@ -1,4 +1,6 @@
 // An arbiter's queue: which ask comes first, the head, and what is queued.
+#![tactic(auto)]
+
 ghost use Rattle.std.specs.Prelude.{◌≡◌, ◌+◌, ◌≤◌, ◌<◌};
 ghost use Rattle.rig.specs.Limits.{site_limit, SiteNumber};
 ghost use Rattle.model.specs.Tables.{at};

@@ -1,5 +1,7 @@
 // What an arbiter does with a yield, as model/specs/Arbiter defines it. An inner call: the desk is that of the arbiter's own site, and
 // messages go to `out`, behind the first `count` rows.
+#![tactic(auto)]
+
 ghost use Rattle.rig.specs.Limits.{SiteNumber};
 ghost use Rattle.model.specs.Arbiter.{on_yield};
 ghost use Rattle.event_effects.specs.Effects.{CarriesOut};

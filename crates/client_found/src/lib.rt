@@ -1,4 +1,5 @@
 // A caller of the search and of the delivery: what it promises, by the case of `Found`, follows from their contracts alone.
+#![tactic(auto)]
 ghost use Rattle.std.specs.Prelude.{◌≡◌, true, take};
 ghost use Rattle.model.specs.State.{in_range};
 ghost use Rattle.list_search.specs.Places.{found_in};
@@ -13,7 +14,7 @@ use list_search::{Found, first};
 use rig::{Arbiter, Site, Tables};
 
 // Where the message stood, and what its delivery answered.
-#[derive(Drop)]
+#[derive(Clone, Copy)]
 pub struct Delivery {
     pub found: Found,
     pub done: Done,

@@ -1,4 +1,5 @@
 // Callers of the calls that print a line, each on a page of spaces: each promise follows from the contracts of those calls alone.
+#![tactic(auto)]
 ghost use Rattle.std.specs.Prelude.{◌≡◌};
 ghost use Rattle.player_printing.specs.Printing.{step_line, stop_line};
 ghost use Rattle.player_text.specs.Player.{on_line, on_end};
@@ -15,7 +16,7 @@ use player_text::Player;
 use rig::Tables;
 
 // The player after a line, and the page with what it printed.
-#[derive(Drop)]
+#[derive(Clone, Copy)]
 pub struct LinePage {
     pub player: Player,
     pub page: Page,

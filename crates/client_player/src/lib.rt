@@ -1,4 +1,5 @@
 // Callers of the player's calls: each promise follows from the contracts of those calls alone.
+#![tactic(auto)]
 ghost use Rattle.std.specs.Prelude.{◌≤◌, length};
 ghost use Rattle.player_state.specs.State.{PlayingFits};
 ghost use Rattle.player_playing.specs.Played.{LeavesPlayed, Continues};
@@ -11,7 +12,7 @@ use player_state::{Playing, begin, is_over};
 
 // What playing a whole text answers: the bytes of the text that are read, those of the output that are written, whether the run has ended,
 // and whether all that the text prints is written.
-#[derive(Drop)]
+#[derive(Clone, Copy)]
 pub struct Told {
     pub taken: usize,
     pub written: usize,

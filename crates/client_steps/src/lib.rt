@@ -1,4 +1,5 @@
 // Callers of inner calls that play events: each promise follows from the contracts of those calls alone.
+#![tactic(auto)]
 ghost use Rattle.std.specs.Prelude.{◌≡◌, true, false, replicate};
 ghost use Rattle.rig.specs.Limits.{sent_limit};
 ghost use Rattle.model.specs.Shape.{well_shaped};
@@ -18,7 +19,7 @@ use player_text::{Player, Stage};
 use rig::{Event, Message, Rig, Tables};
 
 // A stretch of events, and whether it ended for want of a whole line.
-#[derive(Drop)]
+#[derive(Clone, Copy)]
 pub struct Ending {
     pub stretch: Stretch,
     pub done: bool,

@@ -1,4 +1,6 @@
 // What the engine's public call does besides lending its list and playing the event: each part over plain numbers.
+#![tactic(auto)]
+
 ghost use Rattle.std.specs.Prelude.{◌≡◌};
 ghost use Rattle.list_rows.specs.Rows.{zero_rows};
 ghost use Rattle.engine_parts.specs.Parts.{list_code, read_of, changed_from};

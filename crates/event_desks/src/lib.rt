@@ -1,4 +1,6 @@
 // One site's desk, put together from its parts, and its rows stored. Site s has row s - 1 of each table.
+#![tactic(auto)]
+
 ghost use Rattle.std.specs.Prelude.{◌≡◌, length};
 ghost use Rattle.rig.specs.Limits.{SiteNumber, table_count};
 ghost use Rattle.event_desks.specs.Parts.{desk_at, RowsStored};

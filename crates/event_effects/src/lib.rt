@@ -1,8 +1,10 @@
 // What a rule of one event answers.
+#![tactic(auto)]
+
 use rig::Desk;
 
 // The next desk, and how many rows of the list of messages to send are now used.
-#[derive(Drop)]
+#[derive(Clone, Copy)]
 pub struct Acted {
     pub desk: Desk,
     pub count: usize,

@@ -1,4 +1,6 @@
 // Whether an event passes a limit of a rig's numbers.
+#![tactic(auto)]
+
 ghost use Rattle.std.specs.Prelude.{◌≡◌, not, ◌||◌, map, leb, take};
 ghost use Rattle.rig.specs.Limits.{event_limit, number_limit};
 ghost use Rattle.model.specs.Event.{numbers_up_to, numbers_fit};

@@ -1,4 +1,6 @@
 // The sites of an event: at which one it happens, from which and to which a message goes, and where a site's parts stand in a rig.
+#![tactic(auto)]
+
 ghost use Rattle.std.specs.Prelude.{◌≡◌, ◌≤◌, ◌<◌};
 ghost use Rattle.rig.specs.Limits.{site_limit, event_limit};
 ghost use Rattle.model.specs.Event.{actor, sites_named};

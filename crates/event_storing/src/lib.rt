@@ -1,4 +1,5 @@
 // What an event does at its site, once its rule has worked on the desk: the limits are judged, and the rows and the list are stored.
+#![tactic(auto)]
 ghost use Rattle.std.specs.Prelude.{◌≡◌, ℕ, ◌≤◌, ◌<◌, length};
 ghost use Rattle.rig.specs.Limits.{message_limit, SiteNumber};
 ghost use Rattle.list_rows.specs.Rows.{ZeroPast};
@@ -15,7 +16,7 @@ use rig::{Arbiter, Site, Tables};
 
 // The code of an event, its site and arbiter after it, and how many messages are then under way. The site's rows and the list are written
 // where the caller has them.
-#[derive(Drop)]
+#[derive(Clone, Copy)]
 pub struct Done {
     pub code: u64,
     pub site: Site,

@@ -1,4 +1,5 @@
 // The families of request sets: the grid, the billiard, the plane and the levels by their parameters, and the votes.
+#![tactic(auto)]
 ghost use Rattle.std.specs.Prelude.{◌≡◌, true, length};
 ghost use Rattle.rig.specs.Limits.{site_limit};
 ghost use Rattle.model.specs.Setup.{setup_code};
@@ -13,7 +14,7 @@ use rig::Rig;
 use rig_reads::is_site;
 
 // What generating a family answers: 0 accepted, 12 or 13; the number of sites, 0 with a refusal.
-#[derive(Drop)]
+#[derive(Clone, Copy)]
 pub struct Made {
     pub code: u64,
     pub size: u64,

@@ -1,4 +1,5 @@
 // A family of request sets by its rule: the grid, the billiard, the plane and the levels.
+#![tactic(auto)]
 ghost use Rattle.std.specs.Prelude.{◌≡◌, true, cond, ◌+◌, ◌^◌, ◌≤◌, ◌<◌};
 ghost use Rattle.family_billiard.specs.Billiard.{billiard_size};
 ghost use Rattle.family_rules.specs.Family.{listed, computed, size_of, width_of, entry, has_site, set_at, EquallyLarge, FamilyAccepted};
@@ -9,7 +10,7 @@ use family_levels::{levels_entry, sides_listed};
 use family_plane_table::plane_entry;
 
 // A family with its parameters: the grid's side s, the billiard's q, the plane's p, the rows, bays and levels of the levels.
-#[derive(Drop)]
+#[derive(Clone, Copy)]
 pub enum Family {
     Grid(u64),
     Billiard(u64),

@@ -1,5 +1,7 @@
 // The sets of a family whose rule names the members of each site's set, as definitions in specs/, and what makes setup accept them. The claims are the
 // contracts of functions, so that they are checked with the code and show in the list of proved functions. Each answers 0.
+#![tactic(auto)]
+
 ghost use Rattle.std.specs.Prelude.{◌≡◌};
 ghost use Rattle.family_sets.specs.Meeting.{MeetingCodeZero, EqualAccepted};
 

@@ -1,4 +1,6 @@
 // The list of messages after an event: one message taken off, others put behind the rest.
+#![tactic(auto)]
+
 ghost use Rattle.std.specs.Prelude.{◌≡◌, suc, ◌<◌, ◌≤◌, ◌+◌, ◌-◌, length, take, drop};
 ghost use Rattle.std.proofs.Math.Seq.{paste};
 ghost use Rattle.rig.specs.Limits.{message_limit};

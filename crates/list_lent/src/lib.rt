@@ -1,4 +1,6 @@
 // The list of messages as the engine's caller lends it: a slice of message structs, in two thin functions.
+#![tactic(auto)]
+
 ghost use Rattle.std.specs.Prelude.{◌≡◌, ◌<◌, ◌+◌, min, length, take, set};
 ghost use Rattle.list_lent.specs.First.{first_in};
 

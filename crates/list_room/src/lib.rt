@@ -1,4 +1,6 @@
 // Whether the list of messages has room for what an event sends.
+#![tactic(auto)]
+
 ghost use Rattle.std.specs.Prelude.{◌≡◌, ◌<◌, ◌≤◌, ◌+◌, leb, length, take};
 ghost use Rattle.rig.specs.Limits.{message_limit};
 ghost use Rattle.list_rows.specs.Rows.{without};

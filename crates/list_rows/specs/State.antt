@@ -1,6 +1,6 @@
 -- A state and an answer as the code has them, with the list in rows.
 use Rattle.std.specs.Prelude.{ℕ, List, map}
-use Rattle.std.specs.Borrow.{Bor}
+use Rattle.std.specs.Borrow.{MutBor}
 use denote.Triple.Both.{Both}
 use Rattle.rig.specs.declared.Rig.{Rig}
 use Rattle.rig.specs.declared.Answer as R
@@ -14,7 +14,7 @@ stored g ts rows n = record { tables = tables g ts; list = map message_of rows; 
 
 -- what a call is lent, before it (`entry`) and after it (`exit`)
 abbrev pub Lent : Type 0 → Type 0
-Lent A = Both (Bor A) (Bor A)
+Lent A = Both (MutBor A) (MutBor A)
 
 -- the state before a call, and its answer with the state after it
 abbrev pub before : Rig → Lent (List (List (List ℕ))) → Lent (List (List ℕ)) → ℕ → Stored

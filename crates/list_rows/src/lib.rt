@@ -1,4 +1,6 @@
 // A message in plain numbers: a row is kind, from, to, about, number.
+#![tactic(auto)]
+
 ghost use Rattle.std.specs.Prelude.{◌≡◌, [], ◌∷◌, ◌<◌, length};
 ghost use Rattle.list_rows.specs.Rows.{row_of, message_of, Appends};
 

@@ -1,4 +1,6 @@
 // The search for the first message from one site to another, in rows.
+#![tactic(auto)]
+
 ghost use Rattle.std.specs.Prelude.{◌≡◌, take};
 ghost use Rattle.model.specs.Deliver.{between};
 ghost use Rattle.list_search.specs.Places.{found_in};
@@ -7,7 +9,7 @@ use list_rows::{Row, Rows, message};
 use rig::Message;
 
 // Where a search ended.
-#[derive(Drop)]
+#[derive(Clone, Copy)]
 pub enum Found {
     At(usize),
     Nowhere,

@@ -1,6 +1,8 @@
 // Document 01 as definitions, in specs/, and what holds of every run of them, in proofs/. Every contract of the other crates cites
 // the definitions; the functions below have the claims about runs as their contracts, so that these are checked
 // with the code and show in the list of proved functions. Each answers 0.
+#![tactic(auto)]
+
 ghost use Rattle.std.specs.Prelude.{◌≡◌};
 ghost use Rattle.model.specs.Run.{Demand3};
 ghost use Rattle.model.specs.Losses.{SoundWithLosses, ShapedWithLosses};

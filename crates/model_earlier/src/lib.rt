@@ -1,5 +1,7 @@
 // The version before request 2.3 as part of this one. The claims are the contract of a function, so that they are checked with the code and show in the
 // list of proved functions. It answers 0.
+#![tactic(auto)]
+
 ghost use Rattle.std.specs.Prelude.{◌≡◌};
 ghost use Rattle.model_earlier.specs.Claims.{EarlierShaped, EarlierEvent, EarlierCovered, EarlierUnnumbered};
 

@@ -1,5 +1,7 @@
 // What an event leaves of a state's shape, also of a state that no run reaches. The claims are the contracts of functions, so that they are checked
 // with the code and show in the list of proved functions. Each answers 0.
+#![tactic(auto)]
+
 ghost use Rattle.std.specs.Prelude.{◌≡◌};
 ghost use Rattle.model_shaped.specs.Kept.{ShapeKeptAt, ShapeKept, RunsPlayable, ShapeLost};
 ghost use Rattle.model_shaped.specs.Numbered.{FailsNumbered};

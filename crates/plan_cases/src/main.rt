@@ -1,6 +1,7 @@
 // Stored cases of `plan`: one command of each family, of each refusal and of each wrong use, by the library call that the program makes. Their words
 // are this program's arguments, one command behind the other. What a call prints stands under a line with its command and where it goes.
 // The file `stdout` was not written by this program: `outside/vectors` writes it from the words of requests 2.1 and 2.5.
+#![tactic(auto)]
 use libc::{STDERR_FILENO, STDOUT_FILENO};
 use plan_console::{plan_at, print_at};
 use plan_lines::PLAN_LENGTH;

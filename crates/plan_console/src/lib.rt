@@ -1,5 +1,6 @@
 // A command whose words are arguments of the program: reads them, plans it and writes. Which bytes an argument has, and where bytes written go, no
 // contract can say; the stored output of `plan_cases` shows it.
+#![tactic(auto)]
 ghost use Rattle.std.specs.Prelude.{◌+◌, ◌-◌};
 ghost use Rattle.io.specs.Counts.{IsPrefixLen};
 ghost use Rattle.plan_console.specs.Planned.{ReadsWord, ReadsWords, PlansWords};

@@ -1,4 +1,6 @@
 // The numbers that the words of a command are, behind a family's name.
+#![tactic(auto)]
+
 ghost use Rattle.std.specs.Prelude.{◌+◌, ◌-◌, ◌*◌, min, true, ◌≡◌, set};
 ghost use Rattle.player_numbers.specs.Numbers.{is_digit};
 ghost use Rattle.plan_numbers.specs.Given.{largest, parameter, nothing_given, gone_wrong, with_number, with_word};
@@ -7,7 +9,7 @@ use player_numbers::{Number, is_digit, no_leading_zero};
 use rig::Rig;
 
 // The words so far: whether one is no number, how many are numbers, and the first of these, one for each site of the largest rig.
-#[derive(Drop)]
+#[derive(Clone, Copy)]
 pub struct Given {
     pub wrong: bool,
     pub count: u64,

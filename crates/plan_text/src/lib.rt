@@ -1,4 +1,5 @@
 // What a command prints: the lines of a family, the line of a refusal, or how to use it.
+#![tactic(auto)]
 ghost use Rattle.player_printing.specs.Printing.{Printed};
 ghost use Rattle.plan_text.specs.Plan.{family_text, votes_text, usage_text, Prints};
 
@@ -12,7 +13,7 @@ use player_bytes::put_word;
 use rig::Rig;
 
 // The file descriptor that a text goes to, and the text's length on the page.
-#[derive(Drop)]
+#[derive(Clone, Copy)]
 pub struct Output {
     pub to: i32,
     pub length: usize,

@@ -1,4 +1,5 @@
 // What the words of a command ask: `grid 3`, `billiard 7`, `plane 5`, `levels 2 3 5`, `votes 3 1 1 1`.
+#![tactic(auto)]
 ghost use Rattle.std.specs.Prelude.{◌≡◌};
 ghost use Rattle.plan_words.specs.Words.{of_one, of_three, asked_by};
 
@@ -7,7 +8,7 @@ use plan_numbers::Given;
 use player_bytes::same_bytes;
 
 // What is asked: a family by its parameters, one by the votes that are given, or nothing, where the words are wrong.
-#[derive(Drop)]
+#[derive(Clone, Copy)]
 pub enum Asked {
     For(Family),
     Votes,

@@ -1,5 +1,6 @@
 // The player: plays the text of events on standard input, as much of it at a time as its buffer holds. Its stored test is the printed example
 // of document 01.
+#![tactic(auto)]
 use libc::STDIN_FILENO;
 
 fn main() {

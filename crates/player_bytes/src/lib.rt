@@ -1,4 +1,6 @@
 // Words and numbers as bytes, from a place of a lent page on; bytes compared.
+#![tactic(auto)]
+
 ghost use Rattle.std.specs.Prelude.{◌+◌, ◌%◌, ◌≤◌, ◌++◌, ◌≡◌, length};
 ghost use Rattle.player_bytes.specs.Decimal.{decimal};
 ghost use Rattle.player_bytes.specs.Same.{same};

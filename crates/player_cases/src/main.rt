@@ -2,6 +2,7 @@
 // that each text is cut often, inside lines and at their ends.
 // The file `stdout` was not written by this program: the short answers are read off document 01 and request 2.6, the four long ones (codes_full_list,
 // equal_sets, run_billiard_5, run_old_fail) come from outside/, the reading of both in Rust. run_old_fail: an old fail reaches a new ask, request 2.3.
+#![tactic(auto)]
 use libc::STDOUT_FILENO;
 
 // How many bytes are read at once.

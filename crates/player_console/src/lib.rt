@@ -1,5 +1,6 @@
 // A text of events from a file descriptor, played to its end: the lines that document 01 fixes go to standard output. What is read is handed
 // to the player as it comes, in buffers of a fixed size.
+#![tactic(auto)]
 ghost use Rattle.std.specs.Prelude.{◌≤◌, length};
 ghost use Rattle.player_state.specs.State.{PlayingFits};
 

@@ -1,4 +1,6 @@
 // What a printed line says of a rig's sites: which one is inside, and how many wait.
+#![tactic(auto)]
+
 ghost use Rattle.std.specs.Prelude.{◌≡◌, cond, suc, min, ◌<◌};
 ghost use Rattle.rig.specs.Limits.{site_limit};
 ghost use Rattle.model.specs.State.{is_waiting};

@@ -1,4 +1,5 @@
 // A line of the player's text that may come in pieces: its bytes, joined.
+#![tactic(auto)]
 ghost use Rattle.std.specs.Prelude.{◌≤◌, length, take, drop};
 ghost use Rattle.player_grammar.specs.Grammar.{line_limit};
 ghost use Rattle.player_cuts.specs.Joins.{joined};
@@ -10,7 +11,7 @@ use player_grammar::LINE_LIMIT;
 pub const LINE_ROOM: usize = LINE_LIMIT + 1;
 
 // The line's bytes, of which the first `held` are read; how many bytes of the text are read; and whether the line can be judged.
-#[derive(Drop)]
+#[derive(Clone, Copy)]
 pub struct Joined {
     pub line: [u8; LINE_ROOM],
     pub held: usize,

@@ -1,4 +1,5 @@
 // The lines of events in a lent part of a text, played one after the other. The rig is a local of the loop, so that no event copies it.
+#![tactic(auto)]
 ghost use Rattle.std.specs.Prelude.{◌≡◌, false, ◌+◌, ◌≤◌, length};
 ghost use Rattle.player_printing.specs.Printing.{step_line, page_length};
 ghost use Rattle.player_bytes.specs.Wrote.{Wrote};
@@ -19,7 +20,7 @@ use rig::{Message, Mode, Rig, Site, Tables};
 use rig_modes::{is_inside, is_resting, is_waiting};
 
 // The player after a stretch of the text, the bytes of the text that are read, and the bytes of the output that are used.
-#[derive(Drop)]
+#[derive(Clone, Copy)]
 pub struct Stretch {
     pub player: Player,
     pub from: usize,

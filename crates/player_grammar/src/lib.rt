@@ -1,4 +1,6 @@
 // What one line of the player's text means. A line is its bytes before byte 10.
+#![tactic(auto)]
+
 ghost use Rattle.std.specs.Prelude.{◌≡◌};
 ghost use Rattle.player_grammar.specs.Grammar.{numbers, site_bit, set_line, one, move_line, starts, event_form, meaning_of};
 
@@ -8,7 +10,7 @@ use rig::Rig;
 // The bytes that a line may have before its byte 10.
 pub const LINE_LIMIT: usize = 96;
 
-#[derive(Drop)]
+#[derive(Clone, Copy)]
 pub enum Line {
     Sites(u64),
     Set(u64),

@@ -1,4 +1,5 @@
 // What stands at a place of a part of a text: the next whole line.
+#![tactic(auto)]
 ghost use Rattle.std.specs.Prelude.{◌≡◌, ◌≤◌, length};
 ghost use Rattle.player_text.specs.Player.{event_in};
 ghost use Rattle.player_next.specs.Lines.{line_to, Finds};
@@ -7,7 +8,7 @@ use player_grammar::{Line, meaning};
 use rig::Event;
 
 // What stands at a place of the text: a whole line with an event, or another whole line, each with the place of its byte 10; or no whole line.
-#[derive(Drop)]
+#[derive(Clone, Copy)]
 pub enum Next {
     Event(Event, usize),
     Other(usize),

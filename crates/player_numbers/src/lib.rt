@@ -1,9 +1,11 @@
 // The numbers of the player's text.
+#![tactic(auto)]
+
 ghost use Rattle.std.specs.Prelude.{◌+◌, ◌-◌, ◌*◌, ◌≤◌, true, ◌≡◌};
 ghost use Rattle.player_numbers.specs.Numbers.{is_digit, no_leading_zero, number};
 
 // What bytes say as a number.
-#[derive(Drop)]
+#[derive(Clone, Copy)]
 pub enum Number {
     Of(u64),
     Nothing,

@@ -1,4 +1,5 @@
 // A part of a text played, and the end of the input.
+#![tactic(auto)]
 ghost use Rattle.std.specs.Prelude.{min, ◌≡◌};
 ghost use Rattle.player_text.specs.Player.{on_end};
 ghost use Rattle.player_printing.specs.Printing.{Printed};
@@ -11,7 +12,7 @@ use player_reading::read_part;
 use player_state::{Playing, held_of, line_of, list_of, player_of, state_of, tables_of};
 
 // The player after a part of a text, the bytes of the part that it read, and those of the output that it wrote.
-#[derive(Drop)]
+#[derive(Clone, Copy)]
 pub struct Played {
     pub playing: Playing,
     pub taken: usize,

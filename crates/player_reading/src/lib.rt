@@ -1,4 +1,5 @@
 // A part of a text, played: its lines, one after the other, and the bytes of the line that its end cuts.
+#![tactic(auto)]
 ghost use Rattle.std.specs.Prelude.{◌≤◌, length, take};
 ghost use Rattle.player_grammar.specs.Grammar.{line_limit};
 ghost use Rattle.player_text.specs.Calls.{PlayerFits};
@@ -14,7 +15,7 @@ use player_text::{Player, Stage};
 use rig::Tables;
 
 // The player after a part, the bytes of the line that the part cut, the bytes of the part that are read, and those of the output that are used.
-#[derive(Drop)]
+#[derive(Clone, Copy)]
 pub struct PartRead {
     pub player: Player,
     pub line: [u8; LINE_ROOM],

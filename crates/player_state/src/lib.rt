@@ -1,4 +1,5 @@
 // The player's own state between two parts of a text.
+#![tactic(auto)]
 ghost use Rattle.std.specs.Prelude.{◌≡◌, []};
 ghost use Rattle.list_rows.specs.Rows.{ZeroPast};
 ghost use Rattle.list_rows.specs.State.{stored};
@@ -12,7 +13,7 @@ use rig::{Message, Rig, Tables};
 
 // The player with all that it needs between two parts of a text: what it knows, the rig's tables, its list of messages, and the bytes
 // of the line that the end of a part cut. Nobody outside the player makes or changes one.
-#[derive(Drop)]
+#[derive(Clone, Copy)]
 pub struct Playing {
     player: Player,
     tables: Tables,

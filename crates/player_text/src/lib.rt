@@ -1,4 +1,5 @@
 // What the player knows of its text, how it begins, and how it ends with a line `stop=`.
+#![tactic(auto)]
 ghost use Rattle.std.specs.Prelude.{◌≡◌};
 ghost use Rattle.player_printing.specs.Printing.{stop_line, Printed};
 ghost use Rattle.player_text.specs.Player.{counted};
@@ -9,7 +10,7 @@ use rig::Rig;
 use setup::resting;
 
 // Which line comes next: `sites=`, a `set=`, an event, or none, since the run has ended.
-#[derive(Drop)]
+#[derive(Clone, Copy)]
 pub enum Stage {
     Size,
     Sets,
@@ -20,7 +21,7 @@ pub enum Stage {
 // What the player knows: the next line's kind, the lines read, the events played, N, how many sets were read, the sets, and the rig
 // with how many messages are under way. The rig's tables and its list are lent to each call. Where `tested`, each event tests its state
 // first, since it may be misshapen (10); no state of a run is.
-#[derive(Drop)]
+#[derive(Clone, Copy)]
 pub struct Player {
     pub stage: Stage,
     pub line: u64,
@@ -34,7 +35,7 @@ pub struct Player {
 }
 
 // The next player, and how many bytes of the page are to be written out.
-#[derive(Drop)]
+#[derive(Clone, Copy)]
 pub struct Said {
     pub player: Player,
     pub printed: usize,

@@ -3,6 +3,7 @@
 // The file `stdout` was not written by this program. It holds Figure 7 of source 003 (billiard, q = 3, 5, 7), the two sets that source
 // 000 prints for q = 9, Table 1 of source 002 (plane, p = 5), for the grid and p = 2, 3 what the papers' formulas give, and for the levels what
 // request 2.1 says in words.
+#![tactic(auto)]
 ghost use Rattle.std.specs.Prelude.{true, ◌≡◌};
 ghost use Rattle.model.specs.Sets.{member};
 

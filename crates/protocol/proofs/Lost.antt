@@ -89,7 +89,7 @@ ascending-lost k lo (m ∷ ms) [] l a = absurd l
 ascending-lost k lo (m ∷ ms) (m' ∷ ms') l a =
     let P : Message → Message → Type 0 = λ x y. ((is_inquire_to k x ≡ true → lo ≤ number_of x) → is_inquire_to k y ≡ true → lo ≤ number_of y) × (cond (is_inquire_to k y) (number_of y) lo ≡ cond (is_inquire_to k x) (number_of x) lo) in
     let h : P m m' = rw l.0.1 (maybe-lost P (λ x. (λ z. z, refl)) (λ i n. (λ z e. clash true refl (sym e), refl)) l.0.0 m) in
-    (h.0 a.0, rw h.1 (ascending-lost k _ ms ms' l.1 a.1))
+    (h.0 a.0, rw h.1 (ascending-lost k (cond (is_inquire_to k m) (number_of m) lo) ms ms' l.1 a.1))
 
 module _ (p : Setting) where
   pub lost-kept : (t : Local) (ms ms' : List Message) → Loses ms ms' → Invariant p (view t ms) → Invariant p (view t ms')

@@ -1,25 +1,27 @@
 // The plain data of a rig: sites, arbiters, messages and events, with every limit and kind code of document 01.
+#![tactic(auto)]
+
 ghost use Rattle.std.specs.Prelude.{◌≡◌};
 ghost use Rattle.rig.specs.Messages.{request, reply, release, inquire, fail, yield, transfer};
 ghost use Rattle.rig.specs.Limits.{blank_tables};
 ghost use Rattle.rig.specs.Answers.{refused};
 
 // What a site is doing. Only a waiting site has a sequence number and a failed mark.
-#[derive(Drop)]
+#[derive(Clone, Copy)]
 pub enum Mode {
     Rest,
     Waiting { seq: u64, failed: bool },
     Inside,
 }
 
-#[derive(Drop)]
+#[derive(Clone, Copy)]
 pub struct Site {
     pub mode: Mode,
     pub clock: u64,
 }
 
 // An arbiter: its grant number, and its holder (0 none) with the holder's sequence number.
-#[derive(Drop)]
+#[derive(Clone, Copy)]
 pub struct Arbiter {
     pub grant: u64,
     pub holder: u64,
@@ -28,7 +30,7 @@ pub struct Arbiter {
 
 // A rig, but for its four tables: sites 1 to `size`, each with its request set, and the accepted events.
 // Site n stands at index n - 1 of each array.
-#[derive(Drop)]
+#[derive(Clone, Copy)]
 pub struct Rig {
     pub size: u64,
     pub sets: [u64; Rig::SITES],
@@ -41,7 +43,7 @@ pub struct Rig {
 // for each arbiter (the grant number held, the heir, the remembered inquire's number; 0 none), and the sequence number queued of
 // each site (0 none). What a site does depends on this and on the message it gets, and on nothing else.
 // In document 01 a "desk" is a whole console; here it is one site's part of the tables.
-#[derive(Drop)]
+#[derive(Clone, Copy)]
 pub struct Desk {
     pub size: u64,
     pub number: u64,
@@ -61,7 +63,7 @@ pub type Table = [[u64; Rig::SITES]; Rig::SITES];
 // QUEUED has a row for each arbiter and a column for each site.
 pub type Tables = [Table; Rig::TABLES];
 
-#[derive(Drop)]
+#[derive(Clone, Copy)]
 pub struct Message {
     pub kind: u64,
     pub from: u64,
@@ -71,7 +73,7 @@ pub struct Message {
 }
 
 // What may happen: a site asks, a site leaves, the first message from one site to another is delivered.
-#[derive(Drop)]
+#[derive(Clone, Copy)]
 pub enum Event {
     Ask(u64),
     Leave(u64),
@@ -80,7 +82,7 @@ pub enum Event {
 
 // The code of an event, the next rig, and how many messages are now under way. The tables and the list are written where the caller
 // has them.
-#[derive(Drop)]
+#[derive(Clone, Copy)]
 pub struct Answer {
     pub code: u64,
     pub rig: Rig,

@@ -1,4 +1,6 @@
 // The members of a set from one to the next, ascending: the lowest one that is left, and what is left without it.
+#![tactic(auto)]
+
 ghost use Rattle.std.specs.Prelude.{◌≡◌, true, ◌<◌};
 ghost use Rattle.model.specs.Sets.{member};
 ghost use Rattle.rig_members.specs.Walk.{word_bits, within, lowest_member, without_member, WalkVisits};

@@ -1,4 +1,6 @@
 // What a site's mode says: at rest, waiting or inside, its sequence number and its failed mark.
+#![tactic(auto)]
+
 ghost use Rattle.std.specs.Prelude.{◌≡◌};
 ghost use Rattle.model.specs.State.{is_resting, is_waiting, is_inside, seq_in, failed_in};
 

@@ -1,4 +1,6 @@
 // What the numbers of a rig say: a set's members, the range of a site and of a number.
+#![tactic(auto)]
+
 ghost use Rattle.std.specs.Prelude.{◌≡◌, ◌&&◌};
 ghost use Rattle.model.specs.Sets.{member};
 ghost use Rattle.model.specs.Tables.{at};

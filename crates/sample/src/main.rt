@@ -1,4 +1,5 @@
 // The printed example of document 01, on the engine: its 13 events in turn, and a line for each.
+#![tactic(auto)]
 ghost use Rattle.std.specs.Prelude.{ℕ, ◌<◌, ◌≤◌, List};
 ghost use Rattle.model.specs.Run.{StartsRun, inside_count};
 

@@ -1,4 +1,6 @@
 // What a site and an arbiter have as the numbers of a line, and back.
+#![tactic(auto)]
+
 ghost use Rattle.std.specs.Prelude.{cond, [], ◌∷◌, ◌≡◌};
 ghost use Rattle.save_fields.specs.Fields.{mode_numbers, mode_from, holder_numbers, arbiter_from};
 ghost use Rattle.save_fields.specs.Values.{value_of, first_five};
@@ -9,7 +11,7 @@ use rig::{Arbiter, Mode, Rig};
 pub type Numbers = [u64; Rig::SITES];
 
 // The numbers of a line that is to be written: the first `count` of them; 0 behind.
-#[derive(Drop)]
+#[derive(Clone, Copy)]
 pub struct Value {
     pub numbers: Numbers,
     pub count: usize,

@@ -1,4 +1,6 @@
 // A message as the numbers of a line, and back.
+#![tactic(auto)]
+
 ghost use Rattle.std.specs.Prelude.{cond, ◌≡◌, eqb};
 ghost use Rattle.save_fields.specs.Values.{value_of};
 ghost use Rattle.save_messages.specs.Messages.{has_about, message_numbers, message_from};

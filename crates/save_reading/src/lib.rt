@@ -1,4 +1,5 @@
 // The state that the lines of a text give. It is not judged here: it may be misshapen, and the text need not be its text.
+#![tactic(auto)]
 ghost use Rattle.std.specs.Prelude.{◌≤◌, ◌≡◌, length, drop};
 ghost use Rattle.rig.specs.Limits.{site_limit, blank_tables};
 ghost use Rattle.list_rows.specs.Rows.{zero_rows};
@@ -19,7 +20,7 @@ use setup::resting;
 
 // What the lines of a text give beside the tables and the list: the rig, and how many messages there are. Where `fits` is false, there are more sites or
 // messages than any state has, and the rest says nothing.
-#[derive(Drop)]
+#[derive(Clone, Copy)]
 pub struct Given {
     pub fits: bool,
     pub rig: Rig,
@@ -27,20 +28,20 @@ pub struct Given {
 }
 
 // The sites or the arbiters that are read, and the place where the next line starts.
-#[derive(Drop)]
+#[derive(Clone, Copy)]
 struct TakenSites {
     sites: [Site; Rig::SITES],
     next: usize,
 }
 
-#[derive(Drop)]
+#[derive(Clone, Copy)]
 struct TakenArbiters {
     arbiters: [Arbiter; Rig::SITES],
     next: usize,
 }
 
 // Whether all messages have a place in the list, and how many they are.
-#[derive(Drop)]
+#[derive(Clone, Copy)]
 struct TakenMessages {
     all: bool,
     count: usize,

@@ -1,4 +1,5 @@
 // A state whose list is in rows, written as a text to a lent buffer.
+#![tactic(auto)]
 ghost use Rattle.std.specs.Prelude.{◌≡◌, ◌≤◌};
 ghost use Rattle.rig.specs.Limits.{message_limit};
 ghost use Rattle.list_rows.specs.State.{before};
@@ -12,7 +13,7 @@ use save_writing::put_state;
 use shape_state::well_shaped;
 
 // The code of writing, and the text's length.
-#[derive(Drop)]
+#[derive(Clone, Copy)]
 pub struct Saved {
     pub code: u64,
     pub length: usize,

@@ -1,4 +1,5 @@
 // What single lines of a text give: a site's, an arbiter's, a row's, a message's. It is not judged here.
+#![tactic(auto)]
 ghost use Rattle.std.specs.Prelude.{◌≤◌, ◌<◌, ◌≡◌, length, set};
 ghost use Rattle.rig.specs.Limits.{site_limit, table_count, QUEUED};
 ghost use Rattle.list_rows.specs.Rows.{row_of};
@@ -17,25 +18,25 @@ use save_messages::message_from;
 use save_numbers::{Numbers, end_of_line, next_line, numbers_in};
 
 // What is read from some lines, and the place where the next line starts.
-#[derive(Drop)]
+#[derive(Clone, Copy)]
 pub struct Taken {
     pub numbers: Numbers,
     pub next: usize,
 }
 
-#[derive(Drop)]
+#[derive(Clone, Copy)]
 pub struct TakenLine {
     pub line: Line,
     pub next: usize,
 }
 
-#[derive(Drop)]
+#[derive(Clone, Copy)]
 pub struct TakenSite {
     pub site: Site,
     pub next: usize,
 }
 
-#[derive(Drop)]
+#[derive(Clone, Copy)]
 pub struct TakenArbiter {
     pub arbiter: Arbiter,
     pub next: usize,

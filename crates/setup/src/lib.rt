@@ -1,4 +1,6 @@
 // Setup: judges the request sets of a rig, and makes the fresh rig of sets that pass.
+#![tactic(auto)]
+
 ghost use Rattle.std.specs.Prelude.{◌≡◌, ◌≤◌, length};
 ghost use Rattle.rig.specs.Limits.{site_limit};
 ghost use Rattle.model.specs.Setup.{kept_sets, resting_rig};
@@ -9,7 +11,7 @@ use rig::{Arbiter, Mode, Rig, Site};
 use setup_faults::judge;
 
 // The code of document 01, 0 where the sets pass, and the fresh rig; a refused setup answers a rig without sites.
-#[derive(Drop)]
+#[derive(Clone, Copy)]
 pub struct Answer {
     pub code: u64,
     pub rig: Rig,

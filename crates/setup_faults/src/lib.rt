@@ -1,4 +1,6 @@
 // Judges the request sets of a rig, and says which is at fault.
+#![tactic(auto)]
+
 ghost use Rattle.std.specs.Prelude.{◌≡◌, ◌≤◌, length};
 ghost use Rattle.rig.specs.Limits.{site_limit};
 ghost use Rattle.model.specs.Setup.{each_code, meeting_code, setup_code};

@@ -1,4 +1,6 @@
 // What setup asks of each request set, as rules, and whether a set keeps one.
+#![tactic(auto)]
+
 ghost use Rattle.std.specs.Prelude.{◌≡◌, true, not, ◌&&◌, ℕ, ◌<◌, ◌≤◌, ◌+◌, ◌^◌, length};
 ghost use Rattle.rig.specs.Limits.{site_limit};
 ghost use Rattle.model.specs.Sets.{names, meet, nested};
@@ -7,7 +9,7 @@ ghost use Rattle.setup_rules.specs.Rules.{pair_keeps, earlier_keep, keeps_rule, 
 
 // Not to be empty and to name no site outside 1 to `size`; to share a site with each earlier set; neither to contain strictly an earlier set nor to be
 // contained strictly in one; and the last two together.
-#[derive(Drop)]
+#[derive(Clone, Copy)]
 pub enum Rule {
     Names,
     Meets,

@@ -1,5 +1,7 @@
 // Whether an entry of a table of numbers is well shaped, as model/specs/Shape defines it. `which` is the index of the table: it says how
 // the entry is tested.
+#![tactic(auto)]
+
 ghost use Rattle.std.specs.Prelude.{◌≡◌};
 ghost use Rattle.shape_cells.specs.Cells.{cell_shaped};
 

@@ -1,4 +1,6 @@
 // Whether a message under way is well shaped, as model/specs/Shape defines it.
+#![tactic(auto)]
+
 ghost use Rattle.std.specs.Prelude.{◌≡◌};
 ghost use Rattle.model.specs.Shape.{number_shaped, plain_shaped, release_shaped, about_shaped, message_shaped};
 

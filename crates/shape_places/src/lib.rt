@@ -1,4 +1,6 @@
 // Whether what stands at one place of a rig is well shaped, as model/specs/Shape defines it: a set, a site and an arbiter.
+#![tactic(auto)]
+
 ghost use Rattle.std.specs.Prelude.{◌≡◌, ◌&&◌};
 ghost use Rattle.model.specs.Shape.{set_shaped, mode_shaped, site_shaped, holder_shaped, arbiter_shaped};
 

@@ -1,4 +1,6 @@
 // Whether a rig is well shaped, as model/specs/Shape defines it.
+#![tactic(auto)]
+
 ghost use Rattle.std.specs.Prelude.{◌≡◌};
 ghost use Rattle.model.specs.Shape.{rig_shaped};
 

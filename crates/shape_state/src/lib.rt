@@ -1,5 +1,6 @@
 // Whether a stored state is well shaped, else code 10 of document 01. `well_shaped` answers for every rig, tables and messages: a size
 // past the limit, a site outside the tables, a kind that no message has.
+#![tactic(auto)]
 ghost use Rattle.std.specs.Prelude.{◌≡◌, map, ◌≤◌, length, take};
 ghost use Rattle.rig.specs.Limits.{message_limit};
 ghost use Rattle.list_rows.specs.Rows.{message_of};

@@ -1,5 +1,7 @@
 // Whether the tables of numbers are well shaped, as model/specs/Shape defines it. `which` is the index of a table: it says how an entry
 // is tested.
+#![tactic(auto)]
+
 ghost use Rattle.std.specs.Prelude.{◌≡◌, ◌&&◌, [], eqb, get_or};
 ghost use Rattle.rig.specs.Limits.{site_limit, HELD, HEIR, INQUIRED, QUEUED};
 ghost use Rattle.basics.specs.Helpers.{all};

@@ -1,4 +1,6 @@
 // A yield that is due: whether a member must be yielded, and its yield, over a site's entries in three rows.
+#![tactic(auto)]
+
 ghost use Rattle.std.specs.Prelude.{◌≡◌, true, not, ◌&&◌, ◌<◌, ◌+◌, eqb, length};
 ghost use Rattle.model.specs.Sets.{member};
 ghost use Rattle.rig.specs.Limits.{site_limit};

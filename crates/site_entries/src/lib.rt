@@ -1,4 +1,6 @@
 // A site's part of its desk: how it changes.
+#![tactic(auto)]
+
 ghost use Rattle.std.specs.Prelude.{◌≡◌, cond, eqb};
 ghost use Rattle.rig.specs.Limits.{SiteNumber};
 ghost use Rattle.model.specs.Desk.{with_site, without_entries};

@@ -1,4 +1,6 @@
 // Whether a site holds the permissions of all its members.
+#![tactic(auto)]
+
 ghost use Rattle.std.specs.Prelude.{◌≡◌, true, not, ◌≤◌, eqb};
 ghost use Rattle.rig.specs.Limits.{site_limit, SiteNumber};
 ghost use Rattle.model.specs.Sets.{member};

@@ -1,4 +1,6 @@
 // What a site does with a transfer.
+#![tactic(auto)]
+
 ghost use Rattle.model.specs.Site.{on_transfer};
 ghost use Rattle.event_effects.specs.Effects.{CarriesOut};
 ghost use Rattle.rig.specs.Limits.{SiteNumber};

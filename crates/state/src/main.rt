@@ -1,4 +1,5 @@
 // Keeps a state: plays a text and saves, or goes on from a saved text. Its stored test is the example of docs/TEXT.md.
+#![tactic(auto)]
 use libc::STDIN_FILENO;
 
 fn main() {

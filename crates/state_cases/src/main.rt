@@ -3,6 +3,7 @@
 // command. It reads few bytes at a time, so that each text is cut often, and some long inputs as the program does, so that one piece prints more than
 // there is room for. What goes to standard error would show if it went to standard output.
 // The file `stdout` was not written by this program: `outside/state_cases` writes it, by the reading of the words in Rust.
+#![tactic(auto)]
 ghost use Rattle.std.specs.Prelude.{◌≤◌};
 
 use libc::STDOUT_FILENO;

@@ -1,5 +1,6 @@
 // The program `state`: reads the words of a command, the file that they name and the events, plays them and writes. Which bytes an argument or a file
 // has, and where bytes written go, no contract can say; the stored output of `state_cases` shows it.
+#![tactic(auto)]
 ghost use Rattle.io.specs.Counts.{IsPrefixLen};
 
 use libc::{STDERR_FILENO, STDOUT_FILENO};
@@ -59,7 +60,7 @@ fn go_on(at: usize, fd: i32, room: usize, saves: bool) {
 }
 
 // Whether a file could be opened, and how many of its bytes were read.
-#[derive(Drop)]
+#[derive(Clone, Copy)]
 struct FileRead {
     found: bool,
     length: usize,

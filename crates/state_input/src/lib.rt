@@ -1,4 +1,5 @@
 // A text from a file descriptor, in fixed buffers, played and saved: it reads, calls and writes, and nothing else.
+#![tactic(auto)]
 ghost use Rattle.player_state.specs.State.{PlayingFits};
 
 use libc::STDOUT_FILENO;

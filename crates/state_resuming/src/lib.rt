@@ -1,4 +1,5 @@
 // A player that goes on from a saved text.
+#![tactic(auto)]
 ghost use Rattle.std.specs.Prelude.{◌≡◌};
 ghost use Rattle.model_shaped.specs.Kept.{has_granted, all_granted};
 ghost use Rattle.player_state.specs.State.{PlayingFits};
@@ -11,7 +12,7 @@ use rig::{Arbiter, Rig};
 use save_rows::read_rows;
 
 // The code of reading, and the player: before its first event, or where the text is none, before its first line.
-#[derive(Drop)]
+#[derive(Clone, Copy)]
 pub struct Resumption {
     pub code: u64,
     pub playing: Playing,

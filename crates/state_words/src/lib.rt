@@ -1,4 +1,5 @@
 // What the words of the program `state` ask: `save`, `save SAVED`, `play SAVED`.
+#![tactic(auto)]
 ghost use Rattle.std.specs.Prelude.{◌≡◌};
 ghost use Rattle.state_words.specs.Words.{alone, with_file, command_of};
 
@@ -6,7 +7,7 @@ use player_bytes::same_bytes;
 
 // What is asked: to play a whole text and save, to go on from a saved text and save, to go on from one and print the lines; or nothing, where the words
 // are wrong.
-#[derive(Drop)]
+#[derive(Clone, Copy)]
 pub enum Command {
     Save,
     SaveFrom,

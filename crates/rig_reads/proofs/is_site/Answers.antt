@@ -1,0 +1,10 @@
+-- `is_site`: its two tests.
+use mathlib.Core.Path.{refl}
+use borrow.Author.Tests.{le-leb, lt-leb}
+use Rattle.rig_reads.proofs.is_site.Goals as goal
+
+pub returns-then-k-ge1 : goal.returns-then-k-ge1
+returns-then-k-ge1 c = rw (le-leb 1 _ c.if-k-ge1.true) refl
+
+pub returns-else-k-ge1 : goal.returns-else-k-ge1
+returns-else-k-ge1 c = rw (lt-leb 1 _ c.if-k-ge1.false) refl

@@ -1,0 +1,11 @@
+-- `take`: two entries written.
+use Rattle.model.proofs.Tables.{at_read, put-write}
+use Rattle.model.specs.Site.{taken}
+use Rattle.site_entries.proofs.take.Goals as goal
+
+pub returns : goal.returns
+unfolding taken
+returns c =
+    let a = c.args in
+    let low = c.requires.low in
+    rw (put-write a.t1.held _ _ low, put-write a.t1.inquired _ _ low, at_read 0 a.t1.inquired _ low, c.kept_inquire-q.ensures)
