@@ -34,7 +34,7 @@ pub fn next_line(text: &[u8], from: usize) -> Next
     requires { from ≤ length text.now }
     ensures { Finds text.now from result }
 {
-    let end = bytes::scan::find(text, from, text.len(), 10);
+    let end = byte_scan::find(text, from, text.len(), 10);
     if end >= text.len() {
         return Next::Nothing;
     }

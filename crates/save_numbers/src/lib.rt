@@ -17,7 +17,7 @@ pub fn end_of_line(text: &[u8], at: usize) -> usize
     ensures value { result ≡ line_end text.now at }
     ensures upper_bound { result ≤ length text.now }
 {
-    bytes::scan::find(text, at, text.len(), 10)
+    byte_scan::find(text, at, text.len(), 10)
 }
 
 // The place behind a line that ends at `end`, in a text of `len` bytes.

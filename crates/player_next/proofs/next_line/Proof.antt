@@ -7,7 +7,7 @@ use Rattle.player_text.specs.Player.{event_in}
 use Rattle.player_next.proofs.Found.{found, finds}
 use Rattle.player_next.proofs.next_line.Statement.{statement}
 use Rattle.player_next.proofs.next_line.Tie as tie
-use Rattle.bytes.proofs.scan.find.Reads as find-reads
+use Rattle.byte_scan.proofs.find.Reads as find-reads
 use Rattle.player_next.proofs.line_to.Reads as line-to-reads
 use Rattle.player_grammar.proofs.meaning.Reads as meaning-reads
 
