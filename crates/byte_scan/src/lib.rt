@@ -8,7 +8,8 @@ ghost use Rattle.byte_scan.specs.Bytes.{index_of, slice};
 pub fn find(list: &[u8], from: usize, to: usize, byte: u8) -> usize
     requires ordered { from ≤ to }
     requires in_range { to ≤ length list.now }
-    ensures { result ≡ from + index_of byte (slice from to list.now) }
+    ensures value { result ≡ from + index_of byte (slice from to list.now) }
+    ensures in_range { result ≤ to }
 {
     for i in from..to {
         if list[i] == byte {

@@ -5,14 +5,14 @@ use lib.ListN.{length}
 use Rattle.player_grammar.specs.Grammar.{event_form}
 use Rattle.player_grammar.proofs.Words.{starts-length, behind, not_ask, not_leave}
 use Rattle.player_grammar.proofs.event_line.Goals as goal
-use Rattle.player_grammar.proofs.event_line.Goals.{Else1, Else2, Then-starts_with, Then-starts_with-2, Then-starts_with-3}
+use Rattle.player_grammar.proofs.event_line.Goals.{Else-starts_with, Else-starts_with-2, Then-starts_with, Then-starts_with-2, Then-starts_with-3}
 
 -- what the line means where the tests so far failed
-not-ask : (c : Else1) → event_form c.args.line.now ≡ not_ask c.args.line.now
+not-ask : (c : Else-starts_with) → event_form c.args.line.now ≡ not_ask c.args.line.now
 unfolding event_form
 not-ask c = rw (sym c.starts_with.ensures ∙ c.if-starts_with.false)
 
-not-leave : (c : Else2) → event_form c.args.line.now ≡ not_leave c.args.line.now
+not-leave : (c : Else-starts_with-2) → event_form c.args.line.now ≡ not_leave c.args.line.now
 not-leave c = not-ask c ∙ rw (sym c.starts_with-2.ensures ∙ c.if-starts_with-2.false)
 
 -- a line that starts with a word is as long as the word
@@ -36,13 +36,13 @@ pub slice_bounds-leave_line-count : goal.slice_bounds-leave_line-count
 slice_bounds-leave_line-count c = leave-long (goal.at.slice_bounds-leave_line-count c).Then-starts_with-2
 
 pub returns-then-starts_with-2 : goal.returns-then-starts_with-2
-returns-then-starts_with-2 c = c.leave_line.ensures ∙ rw (behind _ _) (sym (not-ask (goal.at.returns-then-starts_with-2 c).Else1 ∙ rw (sym c.starts_with-2.ensures ∙ c.if-starts_with-2.true)))
+returns-then-starts_with-2 c = c.leave_line.ensures ∙ rw (behind _ _) (sym (not-ask (goal.at.returns-then-starts_with-2 c).Else-starts_with ∙ rw (sym c.starts_with-2.ensures ∙ c.if-starts_with-2.true)))
 
 pub slice_bounds-move_line-count : goal.slice_bounds-move_line-count
 slice_bounds-move_line-count c = move-long (goal.at.slice_bounds-move_line-count c).Then-starts_with-3
 
 pub returns-then-starts_with-3 : goal.returns-then-starts_with-3
-returns-then-starts_with-3 c = c.move_line.ensures ∙ rw (behind _ _) (sym (not-leave (goal.at.returns-then-starts_with-3 c).Else2 ∙ rw (sym c.starts_with-3.ensures ∙ c.if-starts_with-3.true)))
+returns-then-starts_with-3 c = c.move_line.ensures ∙ rw (behind _ _) (sym (not-leave (goal.at.returns-then-starts_with-3 c).Else-starts_with-2 ∙ rw (sym c.starts_with-3.ensures ∙ c.if-starts_with-3.true)))
 
 pub returns : goal.returns
-returns c = sym (not-leave (goal.at.returns c).Else2 ∙ rw (sym c.starts_with-3.ensures ∙ c.if-starts_with-3.false))
+returns c = sym (not-leave (goal.at.returns c).Else-starts_with-2 ∙ rw (sym c.starts_with-3.ensures ∙ c.if-starts_with-3.false))

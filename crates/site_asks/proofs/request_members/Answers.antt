@@ -46,7 +46,7 @@ loop-left-preserved c =
     let u = turn l.invariant.0 (omega arith) c.lowest_member-j.ensures in
     let t = c.request_member-n in
     rw (walk-next (requests a.d a.seq) a.d.size a.d.members (requests-idle a.d a.seq) u c.without_member-left.ensures, rw u.next at u.visits)
-    (turn-again u c.without_member-left.ensures, sent-more l.invariant.1 (rw u.next at t.ensures), t.auto.1.1.1.1.0 ∙ l.invariant.2)
+    (turn-again u c.without_member-left.ensures, sent-more l.invariant.1 (rw u.next at t.ensures), t.auto.out ∙ l.invariant.2)
 
 pub returns : goal.returns
 returns c =

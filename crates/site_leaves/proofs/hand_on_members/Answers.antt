@@ -69,7 +69,7 @@ loop-remaining-preserved c =
     let t = c.hand_on_member-n in
     let i = passed_to d.size l.remaining in
     rw (walk-next (hand_ons d) d.size d.members (hand_ons-idle d) u c.without_member-remaining.ensures, hand_ons-more d i (rw u.next at u.visits))
-    (turn-again u c.without_member-remaining.ensures, sent-more l.invariant.1 (rw (u.index, u.next) at t.ensures), t.auto.1.1.1.1.1.0 ∙ l.invariant.2)
+    (turn-again u c.without_member-remaining.ensures, sent-more l.invariant.1 (rw (u.index, u.next) at t.ensures), t.auto.out ∙ l.invariant.2)
 
 pub returns : goal.returns
 returns c =

@@ -46,7 +46,7 @@ loop-left-preserved c =
     let t = c.yield_if-n in
     let i = passed_to d.size l.left in
     rw (walk-next (yielded_up_to (failed_set d)) d.size d.members (up-to-idle d) u c.without_member-left.ensures)
-    (turn-again u c.without_member-left.ensures, did_then (λ e. yielded_if e (suc i)) l.invariant.1 (rw (u.index, add-one) at (t.ensures d refl refl)), t.auto.1.1.1.1.1.1.0 ∙ l.invariant.2)
+    (turn-again u c.without_member-left.ensures, did_then (λ e. yielded_if e (suc i)) l.invariant.1 (rw (u.index, add-one) at (t.ensures d refl refl)), t.auto.out ∙ l.invariant.2)
 
 pub returns : goal.returns
 unfolding failed_set
