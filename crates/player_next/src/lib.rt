@@ -1,5 +1,6 @@
 // What stands at a place of a part of a text: the next whole line.
 #![tactic(auto)]
+
 ghost use Rattle.std.specs.Prelude.{◌≡◌, ◌≤◌, length};
 ghost use Rattle.player_text.specs.Player.{event_in};
 ghost use Rattle.player_next.specs.Lines.{line_to, Finds};

@@ -1,9 +1,9 @@
 -- `inside`: none of the sites passed so far is inside.
-use Prim.Native.Nat.{◌-◌, min}
+use Prim.Native.Nat.{min}
 use mathlib.Core.Path.{◌≡◌, sym, ◌∙◌}
 use native.Mathlib.Omega.{arith}
 use borrow.Author.Rules.{rules}
-use lib.ListN.{length, length-map}
+use lib.ListN.{length}
 use Rattle.rig.specs.Limits.{site_limit}
 use Rattle.basics.specs.Helpers.{lowest}
 use Rattle.basics.proofs.Basics.{lowest-more, lowest-found}
@@ -34,6 +34,6 @@ pub returns : goal.returns
 returns c =
     let l = c.loop-i in
     let rig = c.args.rig in
-    let long : length rig.sites ≡ site_limit = sym (length-map rig.sites _) ∙ c.well_formed.0.1.1.1.1.0.1.0.1 in
+    let long : length rig.sites ≡ site_limit = c.well_formed.0.1.1.1.1.0.1.0.1 in
     let end : l.i ≡ min rig.size site_limit = omega arith in
     sym (rw end at l.invariant.2) ∙ inside-stored rig long rig.size

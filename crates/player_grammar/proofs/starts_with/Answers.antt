@@ -1,5 +1,4 @@
 -- `starts_with`: what is left of the word and of the line.
-use Prim.Native.Nat.{◌-◌}
 use mathlib.Core.Path.{refl, sym, ◌∙◌}
 use native.Mathlib.Omega.{arith}
 use Rattle.player_grammar.proofs.Words.{word-done, line-short, byte-same, byte-other}
