@@ -1,7 +1,7 @@
 -- Request 2.1, "a program that prints a family", and request 2.5: what a command prints, and where.
 use Rattle.std.specs.Prelude.{cond, List, [], ◌∷◌, ◌≡◌, ℕ, eqb, ℤ, pos}
 use Rattle.rig.specs.Limits.{site_limit}
-use Rattle.io.specs.Counts.{IsPrefixLen}
+use Rattle.host_bytes.specs.Counts.{IsPrefixLen}
 use Rattle.family_rules.specs.declared.Family.{Family}
 use Rattle.family_rules.specs.Family.{listed, size_of, sets_of}
 use Rattle.family_votes.specs.Votes.{sets_by_votes}

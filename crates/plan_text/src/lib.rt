@@ -1,16 +1,21 @@
 // What a command prints: the lines of a family, the line of a refusal, or how to use it.
 #![tactic(auto)]
+
 ghost use Rattle.player_printing.specs.Printing.{Printed};
 ghost use Rattle.plan_text.specs.Plan.{family_text, votes_text, usage_text, Prints};
 
 use families::{generate, generate_by_votes};
 use family_rules::Family;
-use libc::{STDERR_FILENO, STDOUT_FILENO};
 use plan_lines::{PlanPage, code_line, setup_lines};
 use plan_numbers::Given;
 use plan_words::{Asked, asked_by};
 use player_bytes::put_word;
 use rig::Rig;
+
+// The file descriptors of the system that a text goes to: standard output and standard error.
+pub const STDOUT_FILENO: i32 = 1;
+
+pub const STDERR_FILENO: i32 = 2;
 
 // The file descriptor that a text goes to, and the text's length on the page.
 #[derive(Clone, Copy)]

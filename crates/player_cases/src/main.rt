@@ -3,28 +3,35 @@
 // The file `stdout` was not written by this program: the short answers are read off document 01 and request 2.6, the four long ones (codes_full_list,
 // equal_sets, run_billiard_5, run_old_fail) come from outside/, the reading of both in Rust. run_old_fail: an old fail reaches a new ask, request 2.3.
 #![tactic(auto)]
-use libc::STDOUT_FILENO;
+
+use host_bytes::{PATH, open_named, put_failure, word, word_count};
+use std::io;
+use std::io::Write;
+use std::rt::{Env, Files};
 
 // How many bytes are read at once.
 const PIECE: usize = 61;
 
-fn play_case(i: usize) {
-    let mut path = io::buffer();
-    let length = os::arg(i, &mut path);
-    io::write_all(STDOUT_FILENO, &path[..length]);
-    io::write_all(STDOUT_FILENO, b"\n");
-    let fd = os::open_read(&path[..length]);
-    if fd < 0 {
-        os::fail(&path[..length]);
-        return;
+fn play_case<W: Write, E: Write>(
+    rt: &(impl Env + Files),
+    i: usize,
+    to: &mut W,
+    errors: &mut E,
+) -> io::Result<()> {
+    let mut path = [0u8; PATH];
+    let length = word(rt, i, &mut path);
+    to.write_all(&path[..length])?;
+    to.write_all(b"\n")?;
+    match open_named(rt, &path[..length]) {
+        Ok(mut text) => player_console::play_from(&mut text, PIECE, to),
+        Err(error) => put_failure(errors, &path[..length], error),
     }
-    player_console::play_from(fd, PIECE);
-    libc::close(fd);
 }
 
-fn main() {
-    let count = os::arg_count();
+fn main(rt: HostRuntime) -> io::Result<()> {
+    let count = word_count(&rt);
     for i in 1..count {
-        play_case(i);
+        play_case(&rt, i, &mut rt.stdout(), &mut rt.stderr())?;
     }
+    Ok(())
 }

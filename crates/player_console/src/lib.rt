@@ -1,13 +1,15 @@
-// A text of events from a file descriptor, played to its end: the lines that document 01 fixes go to standard output. What is read is handed
-// to the player as it comes, in buffers of a fixed size.
+// A text of events from a reader, played to its end: the lines that document 01 fixes go to a writer. What is read is handed to the player
+// as it comes, in buffers of a fixed size. A read or a write that fails ends the run with its error.
 #![tactic(auto)]
-ghost use Rattle.std.specs.Prelude.{◌≤◌, length};
+
+ghost use Rattle.std.specs.Prelude.{◌≤◌, length, IfOk};
 ghost use Rattle.player_state.specs.State.{PlayingFits};
 
-use libc::STDOUT_FILENO;
 use player_playing::{Played, finish, part};
 use player_printing::PAGE_LENGTH;
 use player_state::{Playing, begin, is_over};
+use std::io;
+use std::io::{Read, Write};
 
 // How many bytes are read at once, and how many are written at once.
 const INPUT: usize = 8_192;
@@ -15,12 +17,11 @@ const INPUT: usize = 8_192;
 const OUTPUT: usize = 32_768;
 
 // An inner call: reads at most `room` bytes; answers how many came, 0 at the end of the input.
-pub fn read_some(fd: i32, input: &mut [u8], room: usize) -> usize
+pub fn read_some<R: Read>(source: &mut R, input: &mut [u8], room: usize) -> io::Result<usize>
     requires { room ≤ length input.old }
-    ensures { result ≤ room }
+    ensures { IfOk result (λ n. n ≤ room) }
 {
-    let got = libc::read(fd, &mut input[..room]);
-    io::count(got, &input[..room])
+    source.read(&mut input[..room])
 }
 
 // How many bytes are read at once: `room`, or the whole buffer of `len` bytes where that is none of 1 to `len`.
@@ -36,10 +37,15 @@ pub fn read_room(room: usize, len: usize) -> usize
     room
 }
 
-// An inner call: plays the text that `fd` gives, from a state of the player on, read in pieces of at most `room` bytes. Its turns are counted down
+// An inner call: plays the text that `source` gives, from a state of the player on, read in pieces of at most `room` bytes. Its turns are counted down
 // from a number that no run uses up, since a proved loop has to end. The parts of a piece are played in the same function: the state is
 // large, and a call would copy it.
-pub fn play_on(first: Playing, fd: i32, room: usize)
+pub fn play_on<R: Read, W: Write>(
+    first: Playing,
+    source: &mut R,
+    room: usize,
+    to: &mut W,
+) -> io::Result<()>
     requires { PlayingFits first }
 {
     let mut input = [0u8; INPUT];
@@ -53,29 +59,29 @@ pub fn play_on(first: Playing, fd: i32, room: usize)
     };
     let mut turns = u64::MAX;
     while turns > 0 {
-        let got = read_some(fd, &mut input, most);
+        let got = read_some(source, &mut input, most)?;
         if got == 0 {
             let s = r.playing;
             let n = finish(s, &mut page);
-            io::write_all(STDOUT_FILENO, &page[..n]);
-            return;
+            return to.write_all(&page[..n]);
         }
         let mut from = 0;
         while from < got {
             let s = r.playing;
             r = part(s, &input[from..got], &mut output);
-            io::write_all(STDOUT_FILENO, &output[..r.written]);
+            to.write_all(&output[..r.written])?;
             from = from + r.taken;
         }
         let s = r.playing;
         if is_over(s) {
-            return;
+            return Ok(());
         }
         turns = turns - 1;
     }
+    Ok(())
 }
 
-// Plays the text that `fd` gives, from its first line on.
-pub fn play_from(fd: i32, room: usize) {
-    play_on(begin(), fd, room);
+// Plays the text that `source` gives, from its first line on.
+pub fn play_from<R: Read, W: Write>(source: &mut R, room: usize, to: &mut W) -> io::Result<()> {
+    play_on(begin(), source, room, to)
 }

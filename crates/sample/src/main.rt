@@ -1,26 +1,28 @@
 // The printed example of document 01, on the engine: its 13 events in turn, and a line for each.
 #![tactic(auto)]
+
 ghost use Rattle.std.specs.Prelude.{ℕ, ◌<◌, ◌≤◌, List};
 ghost use Rattle.model.specs.Run.{StartsRun, inside_count};
 
-use libc::STDOUT_FILENO;
 use player_counts::{inside, waiting};
 use player_printing::{PAGE_LENGTH, step_line};
 use rig::{Answer, Event, Message, Rig};
+use std::io;
 
 // Sites 1 and 2. The request set of each is site 1 alone: bit 0. These sets pass; were they refused, nothing would be played.
-fn main() {
+fn main(rt: HostRuntime) -> io::Result<()> {
     let mut sets = [0; Rig::SITES];
     sets[0] = 1;
     sets[1] = 1;
     let made = setup::setup(2, &sets);
     if made.code == 0 {
-        play(made.rig);
+        play(&rt, made.rig)?;
     }
+    Ok(())
 }
 
 // Plays the events on a fresh rig, one that starts a run: the first with nothing under way, each later one with what the one before it left.
-fn play(fresh: Rig)
+fn play(rt: &impl Print, fresh: Rig) -> io::Result<()>
     requires { (n : ℕ) × (sets : List ℕ) × StartsRun n sets fresh }
 {
     let mut rig = fresh;
@@ -35,10 +37,11 @@ fn play(fresh: Rig)
     let mut count = 0;
     for i in 0..13 {
         let r = engine::event(rig, &mut tables, &mut list, count, event_at(i));
-        print_line(i as u64 + 1, r);
+        print_line(rt, i as u64 + 1, r)?;
         rig = r.rig;
         count = r.count;
     }
+    Ok(())
 }
 
 fn event_at(i: usize) -> Event
@@ -63,7 +66,7 @@ fn event_at(i: usize) -> Event
 }
 
 // As `step=1 code=0 inside=0 waiting=1 flying=1`. A line names one site inside, so no two may be: the call in `play` is proved to keep to it.
-fn print_line(step: u64, r: Answer)
+fn print_line(rt: &impl Print, step: u64, r: Answer) -> io::Result<()>
     requires { inside_count r.rig ≤ 1 }
 {
     let mut page = [0; PAGE_LENGTH];
@@ -76,5 +79,5 @@ fn print_line(step: u64, r: Answer)
         waiting(rig),
         r.count as u64,
     );
-    io::write_all(STDOUT_FILENO, &page[..n]);
+    rt.write_all(&page[..n])
 }

@@ -1,9 +1,11 @@
 // The program `state`: reads the words of a command, the file that they name and the events, plays them and writes. Which bytes an argument or a file
 // has, and where bytes written go, no contract can say; the stored output of `state_cases` shows it.
 #![tactic(auto)]
-ghost use Rattle.io.specs.Counts.{IsPrefixLen};
 
-use libc::{STDERR_FILENO, STDOUT_FILENO};
+ghost use Rattle.std.specs.Prelude.{IfOk};
+ghost use Rattle.host_bytes.specs.Counts.{IsPrefixLen};
+
+use host_bytes::{PATH, open_named, put_failure, read_full, word};
 use player_console::play_on;
 use player_state::begin;
 use save_text::LONGEST;
@@ -11,6 +13,9 @@ use state_input::save_on;
 use state_resuming::resume;
 use state_saving::put_stop;
 use state_words::{Command, command_of};
+use std::io;
+use std::io::{Read, Write};
+use std::rt::{Env, Files};
 
 // No saved text is longer than the longest: a file with a byte more is none.
 const FILE: usize = LONGEST + 1;
@@ -18,44 +23,58 @@ const FILE: usize = LONGEST + 1;
 // No word that Linux hands to a program is longer (MAX_ARG_STRLEN).
 const WORD: usize = 131_072;
 
-// Does what the command of `count` words asks whose first word behind its name is argument `at`, with the events or the text that `fd` gives, read in
+// Does what the command of `count` words asks whose first word behind its name is argument `at`, with the events or the text that `source` gives, read in
 // pieces of at most `room` bytes.
-pub fn run(at: u8, count: usize, fd: i32, room: usize) {
-    let mut word = [0u8; WORD];
-    let length = os::arg(at as usize, &mut word);
-    match command_of(count, &word[..length]) {
-        Command::Save => save_on(begin(), fd, room),
-        Command::SaveFrom => go_on(at as usize + 1, fd, room, true),
-        Command::PlayFrom => go_on(at as usize + 1, fd, room, false),
-        Command::Wrong => print_usage(),
+pub fn run<R: Read, W: Write, E: Write>(
+    rt: &(impl Env + Files),
+    at: u8,
+    count: usize,
+    source: &mut R,
+    room: usize,
+    to: &mut W,
+    errors: &mut E,
+) -> io::Result<()> {
+    let mut bytes = [0u8; WORD];
+    let length = word(rt, at as usize, &mut bytes);
+    match command_of(count, &bytes[..length]) {
+        Command::Save => save_on(begin(), source, room, to),
+        Command::SaveFrom => go_on(rt, at as usize + 1, source, room, true, to, errors),
+        Command::PlayFrom => go_on(rt, at as usize + 1, source, room, false, to, errors),
+        Command::Wrong => print_usage(errors),
     }
 }
 
 // How to use the program.
-fn print_usage() {
-    io::write_all(
-        STDERR_FILENO,
+fn print_usage<E: Write>(errors: &mut E) -> io::Result<()> {
+    errors.write_all(
         b"usage: ./state save < TEXT, ./state save SAVED < EVENTS, ./state play SAVED < EVENTS\n",
-    );
+    )
 }
 
 // Goes on from the file that argument `at` names: saves at the end, or prints the lines.
-fn go_on(at: usize, fd: i32, room: usize, saves: bool) {
+fn go_on<R: Read, W: Write, E: Write>(
+    rt: &(impl Env + Files),
+    at: usize,
+    source: &mut R,
+    room: usize,
+    saves: bool,
+    to: &mut W,
+    errors: &mut E,
+) -> io::Result<()> {
     let mut text = [0u8; FILE];
-    let file = read_file(at, &mut text);
+    let file = read_file(rt, at, &mut text, errors)?;
     if !file.found {
-        return;
+        return Ok(());
     }
     let resumed = resume(&text[..file.length]);
     let playing = resumed.playing;
     if resumed.code != 0 {
-        print_stop(resumed.code);
-        return;
+        return print_stop(resumed.code, to);
     }
     if saves {
-        save_on(playing, fd, room);
+        save_on(playing, source, room, to)
     } else {
-        play_on(playing, fd, room);
+        play_on(playing, source, room, to)
     }
 }
 
@@ -67,30 +86,37 @@ struct FileRead {
 }
 
 // Reads the file that argument `at` names, as much of it as there is room for. Where it cannot be opened, says so to standard error.
-fn read_file(at: usize, text: &mut [u8]) -> FileRead
-    ensures { IsPrefixLen result.length text.new }
+fn read_file<E: Write>(
+    rt: &(impl Env + Files),
+    at: usize,
+    text: &mut [u8],
+    errors: &mut E,
+) -> io::Result<FileRead>
+    ensures { IfOk result (λ read. IsPrefixLen read.length text.new) }
 {
-    let mut path = io::buffer();
-    let length = os::arg(at, &mut path);
-    let fd = os::open_read(&path[..length]);
-    if fd < 0 {
-        os::fail(&path[..length]);
-        return FileRead {
-            found: false,
-            length: 0,
-        };
-    }
-    let got = io::read_full(fd, text);
-    libc::close(fd);
-    FileRead {
-        found: true,
-        length: got,
+    let mut path = [0u8; PATH];
+    let length = word(rt, at, &mut path);
+    match open_named(rt, &path[..length]) {
+        Ok(mut file) => {
+            let got = read_full(&mut file, text)?;
+            Ok(FileRead {
+                found: true,
+                length: got,
+            })
+        }
+        Err(error) => {
+            put_failure(errors, &path[..length], error)?;
+            Ok(FileRead {
+                found: false,
+                length: 0,
+            })
+        }
     }
 }
 
 // A line `stop=` with a code alone.
-fn print_stop(code: u64) {
+fn print_stop<W: Write>(code: u64, to: &mut W) -> io::Result<()> {
     let mut page = [0u8; LONGEST];
     let n = put_stop(&mut page, code);
-    io::write_all(STDOUT_FILENO, &page[..n]);
+    to.write_all(&page[..n])
 }

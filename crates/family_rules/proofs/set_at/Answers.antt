@@ -9,4 +9,4 @@ returns-then-n-lt1 c = rw (lt-leb _ _ c.if-n-lt1.true)
 
 pub returns : goal.returns
 unfolding set_by
-returns c = rw (le-leb _ _ c.if-n-lt1.false, lt-leb _ _ (rw c.type_size.ensures at c.if-n-size_of.false))
+returns c = rw (le-leb _ _ c.if-n-lt1.false, lt-leb _ _ (rw c.size_of.ensures at c.if-n-size_of.false))

@@ -1,5 +1,4 @@
 -- `family_rules::site_set` meets its contract. The loop's invariant: the set so far is that of the members among sites 1 to m.
-use Prim.Native.Nat.{◌-◌}
 use mathlib.Core.Path.{refl, ◌∙◌}
 use native.Mathlib.Nat.{le_antisymm}
 use native.Mathlib.Numerals.{add-one}
@@ -19,7 +18,7 @@ unfolding set_of
 loop-m-init c = (omega arith, refl)
 
 pub overflow_add-m : goal.overflow_add-m
-overflow_add-m c = omega (arith, c.type_size.type-inv)
+overflow_add-m c = omega (arith, c.size_of-size.type_inv)
 
 pub has_site-requires : goal.has_site-requires
 has_site-requires c = c.requires
@@ -27,7 +26,7 @@ has_site-requires c = c.requires
 pub with_site-set-requires : goal.with_site-set-requires
 with_site-set-requires c =
     let w = c in
-    (omega (arith, sites-most _ w.requires.0, w.type_size.ensures), rw w.loop-m.invariant.1 (set_below _ w.loop-m.m))
+    (omega (arith, sites-most _ w.requires.0, w.size_of-size.ensures), rw w.loop-m.invariant.1 (set_below _ w.loop-m.m))
 
 pub loop-m-preserved : goal.loop-m-preserved
 unfolding set_of
@@ -37,5 +36,5 @@ pub returns : goal.returns
 unfolding set_by
 returns c =
     let p = c.requires in
-    let e = le_antisymm c.loop-m.invariant.0 c.loop-m-test.false ∙ c.type_size.ensures in
+    let e = le_antisymm c.loop-m.invariant.0 c.loop-m-test.false ∙ c.size_of-size.ensures in
     rw (le-leb _ _ p.1, le-leb _ _ p.2, ← e) c.loop-m.invariant.1

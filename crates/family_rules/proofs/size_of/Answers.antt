@@ -11,19 +11,19 @@ use Rattle.family_rules.proofs.size_of.Goals as goal
 pub overflow_mul-result : goal.overflow_mul-result
 overflow_mul-result c =
     let l = side-bounds _ (rw c.in-Grid.is at c.requires) in
-    omega (arith, product c.family-1.given.0.0 c.family-1.given.0.0 (omega arith) (omega arith))
+    omega (arith, product c.in-Grid.s c.in-Grid.s (omega arith) (omega arith))
 
 pub overflow_mul-result-in-Billiard : goal.overflow_mul-result-in-Billiard
 unfolding computed
 overflow_mul-result-in-Billiard c =
     let l = q-bounds _ (rw c.in-Billiard.is at c.requires) in
-    omega (arith, product c.family-in-Billiard-1.given.0.0 c.family-in-Billiard-1.given.0.0 (omega arith) (omega arith))
+    omega (arith, product c.in-Billiard.q c.in-Billiard.q (omega arith) (omega arith))
 
 pub overflow_sub-result : goal.overflow_sub-result
 unfolding computed
 overflow_sub-result c =
     let l = q-bounds _ (rw c.in-Billiard.is at c.requires) in
-    omega (arith, square-least c.family-in-Billiard-1.given.0.0 (omega arith))
+    omega (arith, square-least c.in-Billiard.q (omega arith))
 
 pub overflow_add-result : goal.overflow_add-result
 overflow_add-result c = omega (arith, p-bounds _ (rw c.in-Plane.is at c.requires))
@@ -31,12 +31,12 @@ overflow_add-result c = omega (arith, p-bounds _ (rw c.in-Plane.is at c.requires
 pub overflow_mul-result-in-Plane : goal.overflow_mul-result-in-Plane
 overflow_mul-result-in-Plane c =
     let l = p-bounds _ (rw c.in-Plane.is at c.requires) in
-    omega (arith, product c.family-in-Plane-1.given.0.0 (c.family-in-Plane-1.given.0.0 + 1) (omega arith) (omega arith))
+    omega (arith, product c.in-Plane.p (c.in-Plane.p + 1) (omega arith) (omega arith))
 
 pub overflow_add-result-in-Plane : goal.overflow_add-result-in-Plane
 overflow_add-result-in-Plane c =
     let l = p-bounds _ (rw c.in-Plane.is at c.requires) in
-    omega (arith, product c.family-in-Plane-1.given.0.0 (c.family-in-Plane-1.given.0.0 + 1) (omega arith) (omega arith))
+    omega (arith, product c.in-Plane.p (c.in-Plane.p + 1) (omega arith) (omega arith))
 
 pub returns-in-Grid : goal.returns-in-Grid
 unfolding size_of

@@ -1,5 +1,4 @@
 -- `none_above`: none of the votes so far is above the most.
-use Prim.Native.Nat.{◌-◌}
 use mathlib.Core.Path.{sym}
 use native.Mathlib.Nat.{le_antisymm}
 use native.Mathlib.Omega.{arith}

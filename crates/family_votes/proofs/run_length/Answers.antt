@@ -1,5 +1,5 @@
 -- `run_length`: the votes of the first k sites of the run, none of whose beginnings was enough, and the site after them.
-use Prim.Native.Nat.{◌≤◌, ◌<◌, ◌+◌, ◌-◌, ◌*◌}
+use Prim.Native.Nat.{◌≤◌, ◌<◌, ◌+◌, ◌*◌}
 use mathlib.Core.Path.{◌≡◌, refl, sym, ◌∙◌}
 use native.Mathlib.Nat.{le_antisymm}
 use native.Mathlib.Numerals.{add-one}
@@ -30,7 +30,7 @@ taken-small c =
     let p = w.requires in
     let a = w.args in
     let m = taken-most a.size a.votes.now p.0.1 a.n p.2 (w.loop-k.k + 1) (omega arith) in
-    omega (arith, taken-on c.After-entry_of-taken, p.0.0)
+    omega (arith, taken-on c, p.0.0)
 
 pub loop-k-init : goal.loop-k-init
 unfolding site_from taken lowest

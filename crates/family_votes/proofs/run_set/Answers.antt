@@ -1,5 +1,4 @@
 -- `run_set`: the set of the first k sites of the run, and the site after them.
-use Prim.Native.Nat.{◌-◌}
 use mathlib.Core.Path.{refl, sym, ◌∙◌}
 use native.Mathlib.Nat.{le_antisymm}
 use native.Mathlib.Numerals.{add-one}

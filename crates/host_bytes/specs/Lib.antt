@@ -1,0 +1,2 @@
+-- Lengths of what stands at the start of a buffer.
+pub mod Counts
