@@ -33,7 +33,7 @@ desk-d-requires c = let p = c.requires in site-number p.1 p.0
 pub offset_bounds-list-place : goal.offset_bounds-list-place
 offset_bounds-list-place c =
     let a = c.args in
-    let place = c.place-1.given.0.0 in
+    let place = c.in-At.place in
     let found = sym c.first.ensures ∙ c.in-At.is in
     let f = found_at a.a a.b a.count a.list.now place found in
     let few = c.requires.1.few in
@@ -42,7 +42,7 @@ offset_bounds-list-place c =
 pub bounds-list-place : goal.bounds-list-place
 bounds-list-place c =
     let a = c.args in
-    let place = c.place-1.given.0.0 in
+    let place = c.in-At.place in
     let found = sym c.first.ensures ∙ c.in-At.is in
     let f = found_at a.a a.b a.count a.list.now place found in
     let few = c.requires.1.few in
@@ -52,7 +52,7 @@ pub deliver-done-requires : goal.deliver-done-requires
 deliver-done-requires c =
     let a = c.args in
     let p = c.requires in
-    let place = c.place-1.given.0.0 in
+    let place = c.in-At.place in
     let found = sym c.first.ensures ∙ c.in-At.is in
     let m = message_of (get_or a.list.now place []) in
     let names = p.1.messages a.a a.b m (found_at a.a a.b a.count a.list.now place found).2 in
@@ -62,11 +62,11 @@ pub conclude-requires : goal.conclude-requires
 conclude-requires c =
     let a = c.args in
     let p = c.requires in
-    let place = c.place-1.given.0.0 in
+    let place = c.in-At.place in
     let found = sym c.first.ensures ∙ c.in-At.is in
     let f = found_at a.a a.b a.count a.list.now place found in
     let fits = carried-fits c.deliver-done.ensures in
-    let long : length c.deliver-done.new.1.1.0 ≡ sent_limit = search rules in
+    let long : length c.deliver-done.new.out ≡ sent_limit = search rules in
     (site-number p.1 p.0, omega (arith, f.0), p.1.few, fits, omega (arith, fits), p.1.zeros)
 
 pub returns : goal.returns
@@ -75,7 +75,7 @@ returns c =
     let a = c.args in
     let d = desk_at a.size a.b a.set a.site a.arbiter a.tables.now in
     let ms = messages_in a.count a.list.now in
-    let place = c.place-1.given.0.0 in
+    let place = c.in-At.place in
     let found = sym c.first.ensures ∙ c.in-At.is in
     let did : _ ≡ delivered d (message_of (get_or a.list.now place [])) = carried-effect c.deliver-done.ensures ∙ rw (c.desk-d.ensures, c.message-m.ensures) in
     let m = message-at a.a a.b a.count a.list.now place found in (

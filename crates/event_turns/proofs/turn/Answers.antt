@@ -38,7 +38,7 @@ pub conclude-requires : goal.conclude-requires
 conclude-requires c =
     let p = c.requires in
     let fits = carried-fits c.turn_rule-a.ensures in
-    let long : length c.turn_rule-a.new.1.1.0 ≡ sent_limit = search rules in
+    let long : length c.turn_rule-a.new.out ≡ sent_limit = search rules in
     (site-number p.1 p.0, omega arith, p.1.few, fits, omega (arith, fits), p.1.zeros)
 
 pub returns : goal.returns
