@@ -1,0 +1,5 @@
+-- `take_row`: the numbers of the line, spread over the row.
+use Rattle.save_taking.proofs.take_row.Goals as goal
+
+pub returns : goal.returns
+returns c = rw (c.row_from-row.ensures, c.take_numbers-line.ensures)
