@@ -18,10 +18,10 @@ unfolding reads
 line-short p line [] h = h
 line-short p line (b ∷ bs) h =
     by_bool (eqb b 10)
-    (λ t. rw t (line-short _ [] bs (omega arith)))
+    (λ t. rw t (line-short (on_line p line).next [] bs (omega arith)))
     (λ t. by_bool (leb (length (line ++ (b ∷ []))) line_limit)
     (λ u. rw (t, u) (line-short p (line ++ (b ∷ [])) bs (leb-true _ _ u)))
-    (λ u. rw (t, u) (line-short _ [] bs (omega arith))))
+    (λ u. rw (t, u) (line-short (on_line p (line ++ (b ∷ []))).next [] bs (omega arith))))
 
 joined : (s : List ℕ) {a : List ℕ} (b c : List ℕ) → a ≡ b ++ c → s ++ a ≡ s ++ b ++ c
 joined s b c e = ap (λ z. s ++ z) e ∙ sym (append_assoc s b c)
