@@ -1,5 +1,6 @@
 // Whether bytes are the text of a state whose list is in rows.
 #![tactic(auto)]
+
 ghost use Rattle.std.specs.Prelude.{◌≡◌, ◌≤◌};
 ghost use Rattle.rig.specs.Limits.{message_limit};
 ghost use Rattle.list_rows.specs.State.{stored};

@@ -1,5 +1,6 @@
 // A line of the saved text read: where it ends, and its numbers.
 #![tactic(auto)]
+
 ghost use Rattle.std.specs.Prelude.{◌≤◌, true, cond, ◌≡◌, length, get_or, set};
 ghost use Rattle.player_numbers.specs.Numbers.{is_digit};
 ghost use Rattle.save_lines.specs.Lines.{grown, numbers_in};

@@ -1,5 +1,6 @@
 // A state whose list is in rows, written as a text to a lent buffer.
 #![tactic(auto)]
+
 ghost use Rattle.std.specs.Prelude.{◌≡◌, ◌≤◌};
 ghost use Rattle.rig.specs.Limits.{message_limit};
 ghost use Rattle.list_rows.specs.State.{stored};

@@ -1,5 +1,6 @@
 // The text of a state on a page: its lines one behind the other. Every inner call answers the place behind what it puts.
 #![tactic(auto)]
+
 ghost use Rattle.std.specs.Prelude.{◌≤◌, true, ◌≡◌, length};
 ghost use Rattle.rig.specs.Limits.{site_limit};
 ghost use Rattle.model.specs.Shape.{well_shaped};

@@ -1,5 +1,6 @@
 // What the program `state` prints at the end of its input: a stop line, or the saved text of the player's state.
 #![tactic(auto)]
+
 ghost use Rattle.list_rows.specs.State.{stored};
 ghost use Rattle.player_state.specs.State.{known, cut_line};
 ghost use Rattle.player_printing.specs.Printing.{Printed};

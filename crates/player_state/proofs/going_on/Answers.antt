@@ -5,6 +5,6 @@ use Rattle.player_state.proofs.going_on.Goals as goal
 
 pub returns : goal.returns
 returns c = rw c.made_of.ensures record {
-        value = refl;
-        result_value = (refl, refl, record { fits = record { fits = c.requires }; room = omega arith });
-    }
+  value = refl;
+  result_value = (refl, refl, record { fits = record { fits = c.requires }; room = omega arith });
+}
