@@ -1,6 +1,7 @@
 // What an arbiter answers to a site that it has queued, as model/specs/Arbiter defines it. An inner call: the desk is that of the arbiter's
 // own site, and messages go to `out`, behind the first `count` rows.
 #![tactic(auto)]
+
 ghost use Rattle.std.specs.Prelude.{◌≡◌, [], ◌∷◌, ◌+◌, ◌≤◌, length};
 ghost use Rattle.rig.specs.Limits.{site_limit, SiteNumber};
 ghost use Rattle.model.specs.Arbiter.{inquire_or_fail, answers};

@@ -1,5 +1,6 @@
 // A caller of the engine's public call, proved from its contract alone: a site asks.
 #![tactic(auto)]
+
 ghost use Rattle.std.specs.Prelude.{◌≡◌};
 ghost use Rattle.model.specs.Run.{OfRun, Sound};
 ghost use Rattle.engine.specs.Lent.{before, after};

@@ -1,5 +1,6 @@
 // A caller of the calls on families, of `setup::setup` and of `setup_faults::judge_meeting`: each promise follows from their contracts alone.
 #![tactic(auto)]
+
 ghost use Rattle.std.specs.Prelude.{◌≡◌, ◌⊎◌};
 ghost use Rattle.rig.specs.Limits.{site_limit};
 ghost use Rattle.families.specs.ByVotes.{votes_code};

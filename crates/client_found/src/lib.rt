@@ -1,5 +1,6 @@
 // A caller of the search and of the delivery: what it promises, by the case of `Found`, follows from their contracts alone.
 #![tactic(auto)]
+
 ghost use Rattle.std.specs.Prelude.{◌≡◌, true, take};
 ghost use Rattle.model.specs.State.{in_range};
 ghost use Rattle.list_search.specs.Places.{found_in};

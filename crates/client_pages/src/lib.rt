@@ -1,5 +1,6 @@
 // Callers of the calls that print a line, each on a page of spaces: each promise follows from the contracts of those calls alone.
 #![tactic(auto)]
+
 ghost use Rattle.std.specs.Prelude.{◌≡◌};
 ghost use Rattle.player_printing.specs.Printing.{step_line, stop_line};
 ghost use Rattle.player_text.specs.Player.{on_line, on_end};

@@ -1,5 +1,6 @@
 // A caller of the planner: its promise follows from the contracts of `plan_text::plan` and of the calls that read a word alone.
 #![tactic(auto)]
+
 ghost use Rattle.std.specs.Prelude.{◌≡◌};
 ghost use Rattle.client_plan.specs.Whole.{grid_output, grid_page};
 

@@ -1,5 +1,6 @@
 // Callers of the player's calls: each promise follows from the contracts of those calls alone.
 #![tactic(auto)]
+
 ghost use Rattle.std.specs.Prelude.{◌≤◌, length};
 ghost use Rattle.player_state.specs.State.{PlayingFits};
 ghost use Rattle.player_playing.specs.Played.{LeavesPlayed, Continues};

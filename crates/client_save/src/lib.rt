@@ -1,6 +1,7 @@
 // A caller of the functions whose contracts are the claims about the saved text: what follows of the two public calls, of which the contracts say that
 // they answer `written` and `read_into`. It answers 0.
 #![tactic(auto)]
+
 ghost use Rattle.std.specs.Prelude.{◌≡◌};
 ghost use Rattle.client_save.specs.Saved.{SavedReadsBack};
 

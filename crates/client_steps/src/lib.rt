@@ -1,5 +1,6 @@
 // Callers of inner calls that play events: each promise follows from the contracts of those calls alone.
 #![tactic(auto)]
+
 ghost use Rattle.std.specs.Prelude.{◌≡◌, true, false, replicate};
 ghost use Rattle.rig.specs.Limits.{sent_limit};
 ghost use Rattle.model.specs.Shape.{well_shaped};

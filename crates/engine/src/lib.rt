@@ -1,5 +1,6 @@
 // The engine's public call: one event, on a list of messages that is lent as a slice of structs.
 #![tactic(auto)]
+
 ghost use Rattle.std.specs.Prelude.{◌≡◌};
 ghost use Rattle.model.specs.Event.{event};
 ghost use Rattle.model.specs.Run.{KeepsRun};

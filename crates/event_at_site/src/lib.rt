@@ -1,5 +1,6 @@
 // One event at its site: the site's own part goes in, and what it becomes comes out. No other site's part is read or written.
 #![tactic(auto)]
+
 ghost use Rattle.model.specs.Event.{actor, attempted, event_at};
 ghost use Rattle.event_desks.specs.Parts.{desk_at};
 ghost use Rattle.event_storing.specs.Leaves.{Leaves, messages_in};

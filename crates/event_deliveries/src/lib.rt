@@ -1,5 +1,6 @@
 // A delivery at its receiver: refused with 7, or what the rule of the message's kind does, judged and stored.
 #![tactic(auto)]
+
 ghost use Rattle.std.specs.Prelude.{◌≡◌, true};
 ghost use Rattle.model.specs.State.{in_range};
 ghost use Rattle.event_desks.specs.Parts.{desk_at};

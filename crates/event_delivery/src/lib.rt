@@ -1,5 +1,6 @@
 // What a site does with a message that is delivered to it: the rule of the message's kind.
 #![tactic(auto)]
+
 ghost use Rattle.model.specs.Deliver.{delivered};
 ghost use Rattle.event_effects.specs.Effects.{CarriesOut};
 ghost use Rattle.event_delivery.specs.Needs.{Fits};

@@ -1,5 +1,6 @@
 // One event on a rig, with its list in rows: the parts of the event's site are taken out of the rig, and stored.
 #![tactic(auto)]
+
 ghost use Rattle.std.specs.Prelude.{◌≡◌, true, ◌≤◌};
 ghost use Rattle.rig.specs.Limits.{message_limit};
 ghost use Rattle.model.specs.Shape.{well_shaped};

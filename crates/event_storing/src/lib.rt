@@ -1,5 +1,6 @@
 // What an event does at its site, once its rule has worked on the desk: the limits are judged, and the rows and the list are stored.
 #![tactic(auto)]
+
 ghost use Rattle.std.specs.Prelude.{◌≡◌, ℕ, ◌≤◌, ◌<◌, length};
 ghost use Rattle.rig.specs.Limits.{message_limit, SiteNumber};
 ghost use Rattle.list_rows.specs.Rows.{ZeroPast};

@@ -1,5 +1,6 @@
 // An ask or a leave at its site: refused with 5 or 6, or what its rule does, judged and stored.
 #![tactic(auto)]
+
 ghost use Rattle.std.specs.Prelude.{◌≡◌, true, ◌≤◌, length};
 ghost use Rattle.rig.specs.Limits.{site_limit, sent_limit};
 ghost use Rattle.model.specs.State.{in_range};

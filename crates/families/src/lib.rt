@@ -1,5 +1,6 @@
 // The families of request sets: the grid, the billiard, the plane and the levels by their parameters, and the votes.
 #![tactic(auto)]
+
 ghost use Rattle.std.specs.Prelude.{◌≡◌, true, length};
 ghost use Rattle.rig.specs.Limits.{site_limit};
 ghost use Rattle.model.specs.Setup.{setup_code};

@@ -1,5 +1,6 @@
 // The billiard: the set of a site is the path from its location, line by line as in Figure 6 of source 000.
 #![tactic(auto)]
+
 ghost use Rattle.std.specs.Prelude.{◌≡◌, true, ◌≤◌, ◌<◌};
 ghost use Rattle.family_billiard.specs.Billiard.{q_computed, billiard_size, column_of, first_site, next_site, path_site, billiard_entry, step_fits, Location};
 

@@ -1,5 +1,6 @@
 // The grid: the set of a site is its row and its column.
 #![tactic(auto)]
+
 ghost use Rattle.std.specs.Prelude.{◌≡◌, ◌≤◌};
 ghost use Rattle.rig.specs.Limits.{site_limit};
 ghost use Rattle.family_grid.specs.Grid.{grid_site, grid_entry};

@@ -1,5 +1,6 @@
 // The levels: the set of a site is its level, and the sites of its row and bay on every level.
 #![tactic(auto)]
+
 ghost use Rattle.std.specs.Prelude.{◌≡◌, ◌+◌, ◌≤◌};
 ghost use Rattle.rig.specs.Limits.{site_limit};
 ghost use Rattle.family_sets.specs.Meeting.{SiteTo};

@@ -1,5 +1,6 @@
 // The plane by its rule: the set of a site is a row of the matrices M1, M2 and so on.
 #![tactic(auto)]
+
 ghost use Rattle.std.specs.Prelude.{◌≡◌, ◌+◌, ◌≤◌};
 ghost use Rattle.rig.specs.Limits.{site_limit};
 ghost use Rattle.family_plane.specs.Plane.{first_matrix, generating_matrix, other_matrix, plane_entry};

@@ -1,5 +1,6 @@
 // The plane with its constant table: for p = 5 the members are read from it.
 #![tactic(auto)]
+
 ghost use Rattle.std.specs.Prelude.{◌≡◌, ◌+◌, ◌≤◌};
 ghost use Rattle.family_plane.specs.Plane.{plane_size, plane_entry};
 ghost use Rattle.family_plane_table.specs.Table.{plane_table};

@@ -1,5 +1,6 @@
 // A family of request sets by its rule: the grid, the billiard, the plane and the levels.
 #![tactic(auto)]
+
 ghost use Rattle.std.specs.Prelude.{◌≡◌, true, cond, ◌+◌, ◌^◌, ◌≤◌, ◌<◌};
 ghost use Rattle.family_billiard.specs.Billiard.{billiard_size};
 ghost use Rattle.family_rules.specs.Family.{listed, computed, size_of, width_of, entry, has_site, set_at, EquallyLarge, FamilyAccepted};

@@ -64,7 +64,7 @@ set-with p (suc i) m a b f =
     by_bool (eqb m (suc i))
     (λ t. let e = eqb-true m (suc i) t in
     let g : p (suc i) ≡ false = rw (← e) f in
-    let w : set_of (λ k. p k || eqb k m) i ≡ set_of p i = set_same _ p i (λ k c d. rw (ne_eqb k m (λ z. omega arith)) (or-false (p k))) in
+    let w : set_of (λ k. p k || eqb k m) i ≡ set_of p i = set_same (λ k. p k || eqb k m) p i (λ k c d. rw (ne_eqb k m (λ z. omega arith)) (or-false (p k))) in
     let s : m - 1 ≡ i = omega arith in
     rw (w, g, eq-eqb (suc i) m (sym e), s) (omega arith))
     (λ t. let ne = eqb-false m (suc i) t in

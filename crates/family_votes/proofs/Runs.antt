@@ -24,7 +24,7 @@ module _ (size n : ℕ) (h : SiteTo size n) where
   pub from-below : (k : ℕ) → n + k ≤ size → site_from size n k ≡ n + k
   unfolding site_from site_after
   from-below zero l = omega arith
-  from-below (suc k) l = rw (from-below k (omega arith), ne_eqb (n + k) size (λ e. omega arith)) (omega arith)
+  from-below (suc k) l = rw (from-below k (omega arith), ne_eqb (n + k) size (λ (e : n + k ≡ size). omega arith)) (omega arith)
 
   -- and once it has
   pub from_past : (k : ℕ) → size < n + k → n + k ≤ size + size → site_from size n k ≡ n + k - size
@@ -36,7 +36,7 @@ module _ (size n : ℕ) (h : SiteTo size n) where
       let e : n + k ≡ size = omega arith in
       rw (from-below k b, eq-eqb (n + k) size e) (omega arith))
       (λ t. let b : size < n + k = leb-false _ _ t in
-      rw (from_past k b (omega arith), ne_eqb (n + k - size) size (λ e. omega arith)) (omega arith))
+      rw (from_past k b (omega arith), ne_eqb (n + k - size) size (λ (e : n + k - size ≡ size). omega arith)) (omega arith))
 
   -- where it is one of the sites of its first round
   pub from-range : (k : ℕ) → k ≤ size → SiteTo size (site_from size n k)

@@ -4,7 +4,6 @@ use mathlib.Core.Path.{◌≡◌}
 use mathlib.Core.Bool.{true}
 use mathlib.Core.List.{List}
 use native.Mathlib.Omega.{arith}
-use Rattle.model.specs.Tables.{at}
 use Rattle.family_sets.specs.Meeting.{SiteTo}
 use Rattle.family_votes.specs.Votes.{vote_limit, none_above, vote_sum, site_from, taken}
 use Rattle.family_votes.proofs.Listed.{vote-most}

@@ -1,5 +1,6 @@
 // The votes: a site takes the sites from it on, until their votes exceed half of the sum.
 #![tactic(auto)]
+
 ghost use Rattle.std.specs.Prelude.{◌≡◌, ◌+◌, ◌-◌, ◌^◌, ◌≤◌, ◌<◌};
 ghost use Rattle.rig.specs.Limits.{site_limit};
 ghost use Rattle.model.specs.Sets.{set_of};

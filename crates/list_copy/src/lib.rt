@@ -1,5 +1,6 @@
 // The list of messages copied into rows of plain numbers, and rewritten from them.
 #![tactic(auto)]
+
 ghost use Rattle.std.specs.Prelude.{◌≡◌, ◌⊎◌, map, ◌<◌, ◌≤◌, ◌-◌, length, drop, get_or, set};
 ghost use Rattle.std.proofs.Math.Seq.{paste};
 ghost use Rattle.list_rows.specs.Rows.{row_of, message_of, zero_row};

@@ -1,3 +1,2 @@
 -- Laws of the lists.
 pub mod Search
-pub mod Walks

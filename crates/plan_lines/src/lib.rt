@@ -1,5 +1,6 @@
 // The lines that a plan prints, as bytes at the start of a page that the caller lends.
 #![tactic(auto)]
+
 ghost use Rattle.std.specs.Prelude.{◌+◌, ◌*◌, ◌≤◌, true, cond, ◌≡◌, [], ◌∷◌, ◌++◌, eqb, length};
 ghost use Rattle.model.specs.Sets.{member};
 ghost use Rattle.player_bytes.specs.Decimal.{decimal};

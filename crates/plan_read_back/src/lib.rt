@@ -1,6 +1,7 @@
 // What the player makes of a printed family. The claims are the contracts of functions, so that they are checked with the code and show in the
 // list of proved functions. Each answers 0.
 #![tactic(auto)]
+
 ghost use Rattle.std.specs.Prelude.{◌≡◌};
 ghost use Rattle.plan_read_back.specs.ReadBack.{SitesRead, SetRead, FamilySetUp, VotesPlayed};
 

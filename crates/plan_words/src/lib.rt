@@ -1,5 +1,6 @@
 // What the words of a command ask: `grid 3`, `billiard 7`, `plane 5`, `levels 2 3 5`, `votes 3 1 1 1`.
 #![tactic(auto)]
+
 ghost use Rattle.std.specs.Prelude.{◌≡◌};
 ghost use Rattle.plan_words.specs.Words.{of_one, of_three, asked_by};
 

@@ -1,5 +1,6 @@
 // A line of the player's text that may come in pieces: its bytes, joined.
 #![tactic(auto)]
+
 ghost use Rattle.std.specs.Prelude.{◌≤◌, length, take, drop};
 ghost use Rattle.player_grammar.specs.Grammar.{line_limit};
 ghost use Rattle.player_cuts.specs.Joins.{joined};

@@ -8,7 +8,7 @@ use lib.Dec.{eqb, leb}
 use lib.ListN.{length, take, drop, length-drop}
 use lib.Seq.{take-add, drop-drop, length-sets}
 use Rattle.basics.proofs.Basics.{by_bool}
-use Rattle.bytes.specs.Bytes.{index_after, index_of}
+use Rattle.byte_scan.specs.Bytes.{index_after, index_of}
 use Rattle.player_grammar.specs.Grammar.{line_limit}
 use Rattle.player_printing.specs.Printing.{page_length, Printed}
 use Rattle.player_bytes.specs.Wrote.{Wrote}

@@ -1,5 +1,6 @@
 // The lines of events in a lent part of a text, played one after the other. The rig is a local of the loop, so that no event copies it.
 #![tactic(auto)]
+
 ghost use Rattle.std.specs.Prelude.{◌≡◌, false, ◌+◌, ◌≤◌, length};
 ghost use Rattle.player_printing.specs.Printing.{step_line, page_length};
 ghost use Rattle.player_bytes.specs.Wrote.{Wrote};

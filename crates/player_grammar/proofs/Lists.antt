@@ -12,7 +12,7 @@ use lib.Dec.{leb, ltb, eqb}
 use lib.ListN.{length, take, drop, length-drop}
 use lib.Seq.{take_all, take-length, drop-drop}
 use Rattle.basics.proofs.Basics.{by_bool, and_second}
-use Rattle.bytes.specs.Bytes.{index_after, index_of, slice}
+use Rattle.byte_scan.specs.Bytes.{index_after, index_of, slice}
 use Rattle.player_numbers.specs.Numbers.{is_digit, all_digits, no_leading_zero, number}
 use Rattle.player_grammar.specs.Grammar.{longer, parts, before, all_numbers, numbers, ascends, site_bit, with_sites, set_line, one, move_line}
 use Rattle.player_grammar.specs.declared.Line.{Line}

@@ -41,7 +41,7 @@ fn set_line(list: &[u8]) -> Line
     let mut low = 0;
     let mut set = 0;
     while at <= list.len() {
-        let end = bytes::scan::find(list, at, list.len(), b',');
+        let end = byte_scan::find(list, at, list.len(), b',');
         let Number::Of(n) = read_number(&list[at..end]) else {
             return Line::Malformed;
         };
@@ -89,7 +89,7 @@ fn leave_line(list: &[u8]) -> Line
 fn move_line(list: &[u8]) -> Line
     ensures { result ≡ move_line (numbers list.now) }
 {
-    let end = bytes::scan::find(list, 0, list.len(), b',');
+    let end = byte_scan::find(list, 0, list.len(), b',');
     if end >= list.len() {
         return Line::Malformed;
     }

@@ -1,5 +1,6 @@
 // The player: reads a text of events line by line, and writes the lines that document 01 fixes.
 #![tactic(auto)]
+
 ghost use Rattle.player_text.specs.declared.Stage.TheVariants.{Events};
 ghost use Rattle.player_text.specs.Player.{event_in, on_event, on_line};
 ghost use Rattle.player_text.specs.Calls.{before, HoldsAt, PlayerFits, Gives, Ended};

@@ -5,7 +5,7 @@ use mathlib.Core.Option.{Option, none, some}
 use mathlib.Core.Path.{◌≡◌}
 use lib.ListN.{length, drop}
 use lib.Seq.{take-length}
-use Rattle.bytes.specs.Bytes.{index_of, slice}
+use Rattle.byte_scan.specs.Bytes.{index_of, slice}
 use Rattle.rig.specs.declared.Event.{Event}
 use Rattle.player_grammar.specs.Grammar.{meaning_of}
 use Rattle.player_text.specs.Player.{event_in}

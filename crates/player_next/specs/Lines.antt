@@ -1,7 +1,7 @@
 -- The line that starts at a place of a text.
 use Rattle.std.specs.Prelude.{ℕ, ◌+◌, ◌-◌, ◌<◌, ◌≤◌, List, ◌≡◌, length, take, drop}
 use Rattle.std.proofs.Math.Option.{Option, none, some}
-use Rattle.bytes.specs.Bytes.{index_of}
+use Rattle.byte_scan.specs.Bytes.{index_of}
 use Rattle.rig.specs.declared.Event as R
 use Rattle.player_grammar.specs.Grammar.{meaning_of}
 use Rattle.player_text.specs.Player.{event_in}

@@ -1,5 +1,6 @@
 // What stands at a place of a part of a text: the next whole line.
 #![tactic(auto)]
+
 ghost use Rattle.std.specs.Prelude.{◌≡◌, ◌≤◌, length};
 ghost use Rattle.player_text.specs.Player.{event_in};
 ghost use Rattle.player_next.specs.Lines.{line_to, Finds};
@@ -34,7 +35,7 @@ pub fn next_line(text: &[u8], from: usize) -> Next
     requires { from ≤ length text.now }
     ensures { Finds text.now from result }
 {
-    let end = bytes::scan::find(text, from, text.len(), 10);
+    let end = byte_scan::find(text, from, text.len(), 10);
     if end >= text.len() {
         return Next::Nothing;
     }

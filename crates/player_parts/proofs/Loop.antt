@@ -9,7 +9,7 @@ use lib.Dec.{eqb, leb}
 use lib.ListN.{length, length-append}
 use lib.Seq.{append_snoc}
 use Rattle.basics.proofs.Basics.{by_bool}
-use Rattle.bytes.specs.Bytes.{index_after, index_of}
+use Rattle.byte_scan.specs.Bytes.{index_after, index_of}
 use Rattle.player_grammar.specs.Grammar.{line_limit}
 use Rattle.player_text.specs.Player.{Text, Outcome, on_line}
 use Rattle.player_parts.specs.Parts.{Part, said_before, reads}

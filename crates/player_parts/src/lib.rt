@@ -1,6 +1,7 @@
 // A text of the player that arrives in parts, cut anywhere: what the parts print, as definitions in specs/. The laws that a program's
 // loop cites, and the theorem that the cuts change nothing, are in proofs/.
 #![tactic(auto)]
+
 ghost use Rattle.std.specs.Prelude.{◌≡◌};
 ghost use Rattle.player_parts.specs.Parts.{CutsAgree};
 

@@ -1,5 +1,6 @@
 // A part of a text played, and the end of the input.
 #![tactic(auto)]
+
 ghost use Rattle.std.specs.Prelude.{min, ◌≡◌};
 ghost use Rattle.player_text.specs.Player.{on_end};
 ghost use Rattle.player_printing.specs.Printing.{Printed};

@@ -1,5 +1,6 @@
 // The lines that the player prints, as bytes at the start of a page that the caller lends.
 #![tactic(auto)]
+
 ghost use Rattle.player_printing.specs.Printing.{step_line, stop_line, Printed};
 
 use player_bytes::{put_field, put_word};

@@ -1,5 +1,6 @@
 // A part of a text, played: its lines, one after the other, and the bytes of the line that its end cuts.
 #![tactic(auto)]
+
 ghost use Rattle.std.specs.Prelude.{◌≤◌, length, take};
 ghost use Rattle.player_grammar.specs.Grammar.{line_limit};
 ghost use Rattle.player_text.specs.Calls.{PlayerFits};

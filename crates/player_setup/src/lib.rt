@@ -1,5 +1,6 @@
 // The player's text up to its first event: the line `sites=` and the lines `set=`.
 #![tactic(auto)]
+
 ghost use Rattle.std.specs.Prelude.{◌<◌, ◌≤◌};
 ghost use Rattle.rig.specs.Limits.{site_limit};
 ghost use Rattle.player_text.specs.declared.Stage.TheVariants.{Size, Sets};

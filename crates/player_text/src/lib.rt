@@ -1,5 +1,6 @@
 // What the player knows of its text, how it begins, and how it ends with a line `stop=`.
 #![tactic(auto)]
+
 ghost use Rattle.std.specs.Prelude.{◌≡◌};
 ghost use Rattle.player_printing.specs.Printing.{stop_line, Printed};
 ghost use Rattle.player_text.specs.Player.{counted};

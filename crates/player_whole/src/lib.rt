@@ -1,6 +1,7 @@
 // A whole text, played by `begin`, by `part` as often as the caller likes, and by `finish`: what they write, as a definition in specs/. The theorem
 // is in proofs/.
 #![tactic(auto)]
+
 ghost use Rattle.std.specs.Prelude.{◌≡◌};
 ghost use Rattle.player_whole.specs.Whole.{WholeText, WholeTextFrom};
 

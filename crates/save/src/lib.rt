@@ -1,5 +1,6 @@
 // The two public calls of the saved text: a state written to a lent buffer, and read into lent tables and a list that is lent as a slice of structs.
 #![tactic(auto)]
+
 ghost use Rattle.std.specs.Prelude.{◌≡◌};
 ghost use Rattle.model.specs.Setup.{no_rig};
 ghost use Rattle.model.specs.State.{stored};

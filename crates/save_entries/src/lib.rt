@@ -1,5 +1,6 @@
 // The entries of a row at the members of a set as the numbers of a line, and back.
 #![tactic(auto)]
+
 ghost use Rattle.std.specs.Prelude.{◌+◌, ◌^◌, ◌<◌, true, cond, ◌≡◌, set};
 ghost use Rattle.rig.specs.Limits.{site_limit};
 ghost use Rattle.model.specs.Sets.{member, set_of};

@@ -1,5 +1,6 @@
 // A line of the saved text, written.
 #![tactic(auto)]
+
 ghost use Rattle.std.specs.Prelude.{◌+◌, ◌≤◌, cond, ◌∷◌, eqb, length, take};
 ghost use Rattle.player_bytes.specs.Decimal.{decimal};
 ghost use Rattle.player_bytes.specs.Wrote.{Wrote};

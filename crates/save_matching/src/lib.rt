@@ -1,8 +1,9 @@
 // Whether bytes are the text of a state whose list is in rows.
 #![tactic(auto)]
+
 ghost use Rattle.std.specs.Prelude.{◌≡◌, ◌≤◌};
 ghost use Rattle.rig.specs.Limits.{message_limit};
-ghost use Rattle.list_rows.specs.State.{before};
+ghost use Rattle.list_rows.specs.State.{stored};
 ghost use Rattle.save_text.specs.Text.{this_spelling};
 ghost use Rattle.save_text.specs.Reading.{is_text_of};
 
@@ -16,7 +17,7 @@ use shape_state::well_shaped;
 // An inner call: whether a state is well shaped and these bytes are its text.
 pub fn is_text_of(text: &[u8], rig: Rig, tables: &Tables, list: &Rows, count: usize) -> bool
     requires { count ≤ message_limit }
-    ensures { result ≡ is_text_of this_spelling text.now (before rig tables list count) }
+    ensures { result ≡ is_text_of this_spelling text.now (stored rig tables.now list.now count) }
 {
     if !well_shaped(rig, tables, list, count) {
         return false;

@@ -8,7 +8,7 @@ use lib.Dec.{eqb, ltb}
 use lib.ListN.{length, take, drop, get_or, length-drop, drop_of_length-le}
 use lib.Seq.{drop-drop, drop-length}
 use Rattle.basics.proofs.Basics.{by_bool}
-use Rattle.bytes.specs.Bytes.{index_after, index_of}
+use Rattle.byte_scan.specs.Bytes.{index_after, index_of}
 use Rattle.save_lines.specs.Lines.{in_front, lines_in}
 use Rattle.save_numbers.specs.Places.{line_end, next_line}
 

@@ -1,6 +1,6 @@
 -- The line that starts at a place of a text: where it ends, and where the next one starts.
 use Rattle.std.specs.Prelude.{ℕ, suc, ◌+◌, cond, List, ltb, drop}
-use Rattle.bytes.specs.Bytes.{index_of}
+use Rattle.byte_scan.specs.Bytes.{index_of}
 
 -- the place of the first byte 10 from place `at` on; the end of the text where there is none
 unfoldable pub line_end : List ℕ → ℕ → ℕ

@@ -1,5 +1,6 @@
 // A line of the saved text read: where it ends, and its numbers.
 #![tactic(auto)]
+
 ghost use Rattle.std.specs.Prelude.{◌≤◌, true, cond, ◌≡◌, length, get_or, set};
 ghost use Rattle.player_numbers.specs.Numbers.{is_digit};
 ghost use Rattle.save_lines.specs.Lines.{grown, numbers_in};
@@ -17,7 +18,7 @@ pub fn end_of_line(text: &[u8], at: usize) -> usize
     ensures value { result ≡ line_end text.now at }
     ensures upper_bound { result ≤ length text.now }
 {
-    bytes::scan::find(text, at, text.len(), 10)
+    byte_scan::find(text, at, text.len(), 10)
 }
 
 // The place behind a line that ends at `end`, in a text of `len` bytes.

@@ -1,5 +1,6 @@
 // The lines of one set, one site, one arbiter and one message on a page. Every inner call answers the place behind what it puts.
 #![tactic(auto)]
+
 ghost use Rattle.std.specs.Prelude.{suc, ◌≤◌, ◌<◌, [], ◌∷◌, length, get_or};
 ghost use Rattle.rig.specs.Limits.{site_limit};
 ghost use Rattle.model.specs.Sets.{member};

@@ -1,5 +1,6 @@
 // The state that the lines of a text give. It is not judged here: it may be misshapen, and the text need not be its text.
 #![tactic(auto)]
+
 ghost use Rattle.std.specs.Prelude.{◌≤◌, ◌≡◌, length, drop};
 ghost use Rattle.rig.specs.Limits.{site_limit, blank_tables};
 ghost use Rattle.list_rows.specs.Rows.{zero_rows};

@@ -1,5 +1,6 @@
 // A state whose list is in rows, read from a text.
 #![tactic(auto)]
+
 ghost use Rattle.std.specs.Prelude.{◌≡◌};
 ghost use Rattle.list_rows.specs.Rows.{zero_rows};
 ghost use Rattle.save_rows.specs.Rows.{ReadsRows};

@@ -1,5 +1,6 @@
 // Runs with breaks, in which the state is saved and read back. The functions below have the claims about them as their contracts. Each answers 0.
 #![tactic(auto)]
+
 ghost use Rattle.std.specs.Prelude.{◌≡◌};
 ghost use Rattle.save_runs.specs.Breaks.{SoundWithBreaks, BreaksUnseen, BreaksTaken, LinesKept};
 ghost use Rattle.save_runs.specs.Update.{EarlierRead, UpdateSound};

@@ -1,8 +1,9 @@
 // A state whose list is in rows, written as a text to a lent buffer.
 #![tactic(auto)]
+
 ghost use Rattle.std.specs.Prelude.{◌≡◌, ◌≤◌};
 ghost use Rattle.rig.specs.Limits.{message_limit};
-ghost use Rattle.list_rows.specs.State.{before};
+ghost use Rattle.list_rows.specs.State.{stored};
 ghost use Rattle.save_storing.specs.Buffers.{in_buffer, written_with};
 
 use list_rows::Rows;
@@ -29,7 +30,7 @@ pub fn write_rows(
     out: &mut [u8],
 ) -> Saved
     requires { code ≡ 0 → count ≤ message_limit }
-    ensures { in_buffer result out.new ≡ written_with code (before rig tables list count) out.old }
+    ensures { in_buffer result out.new ≡ written_with code (stored rig tables.now list.now count) out.old }
 {
     if code != 0 {
         return refused(code);

@@ -1,5 +1,6 @@
 // What single lines of a text give: a site's, an arbiter's, a row's, a message's. It is not judged here.
 #![tactic(auto)]
+
 ghost use Rattle.std.specs.Prelude.{◌≤◌, ◌<◌, ◌≡◌, length, set};
 ghost use Rattle.rig.specs.Limits.{site_limit, table_count, QUEUED};
 ghost use Rattle.list_rows.specs.Rows.{row_of};

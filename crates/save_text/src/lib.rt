@@ -1,6 +1,7 @@
 // The saved text of a state. The claims on it are the contracts of functions, so that they are checked with the code and show in the list of proved
 // functions. Each answers 0.
 #![tactic(auto)]
+
 ghost use Rattle.std.specs.Prelude.{◌≡◌};
 ghost use Rattle.save_text.specs.Claims.{ReadBack, WrittenBack, FirstSpelled, longest, NoneLonger};
 

@@ -1,9 +1,10 @@
 // The text of a state on a page: its lines one behind the other. Every inner call answers the place behind what it puts.
 #![tactic(auto)]
+
 ghost use Rattle.std.specs.Prelude.{◌≤◌, true, ◌≡◌, length};
 ghost use Rattle.rig.specs.Limits.{site_limit};
 ghost use Rattle.model.specs.Shape.{well_shaped};
-ghost use Rattle.list_rows.specs.State.{stored, before};
+ghost use Rattle.list_rows.specs.State.{stored};
 ghost use Rattle.player_printing.specs.Printing.{Printed};
 ghost use Rattle.save_text.specs.Text.{each_up_to, text_of};
 ghost use Rattle.save_putting.specs.Puts.{Fits, Puts, site_lines, arbiter_lines};
@@ -65,7 +66,7 @@ fn put_messages(page: &mut [u8], at: usize, list: &[Row], count: usize) -> usize
 // The lines of a state, from the start of a page.
 fn put_lines(page: &mut [u8], rig: Rig, tables: &Tables, list: &[Row], count: usize) -> usize
     requires { (rig.size ≤ site_limit) × (count ≤ length list.now) × Fits (state_lines (stored rig tables.now list.now count)) 0 page.old }
-    ensures { Puts (state_lines (before rig tables list count)) 0 page.old page.new result }
+    ensures { Puts (state_lines (stored rig tables.now list.now count)) 0 page.old page.new result }
 {
     let n = rig.size as usize;
     let sites = put_one(page, 0, b"sites=", rig.size);
@@ -79,7 +80,7 @@ fn put_lines(page: &mut [u8], rig: Rig, tables: &Tables, list: &[Row], count: us
 // An inner call: the text of a well-shaped state at the start of a page that holds the longest; answers its length.
 pub fn put_state(page: &mut TextPage, rig: Rig, tables: &Tables, list: &Rows, count: usize) -> usize
     requires { well_shaped (stored rig tables.now list.now count) ≡ true }
-    ensures { Printed (text_of (before rig tables list count)) page.old page.new result }
+    ensures { Printed (text_of (stored rig tables.now list.now count)) page.old page.new result }
 {
     put_lines(page, rig, tables, list, count)
 }

@@ -1,5 +1,6 @@
 // What a site does when it asks for its members' permissions.
 #![tactic(auto)]
+
 ghost use Rattle.std.specs.Prelude.{◌<◌, true, [], ◌∷◌, ◌≡◌, length};
 ghost use Rattle.rig.specs.Messages.{request};
 ghost use Rattle.model.specs.Sets.{member};

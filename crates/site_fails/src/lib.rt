@@ -1,5 +1,6 @@
 // What a site does with a fail.
 #![tactic(auto)]
+
 ghost use Rattle.std.specs.Prelude.{◌≡◌, ◌≤◌, ◌+◌, length};
 ghost use Rattle.model.specs.Site.{fail_counts, on_fail};
 ghost use Rattle.event_effects.specs.Effects.{CarriesOut};

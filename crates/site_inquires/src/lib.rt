@@ -1,5 +1,6 @@
 // What a site does with an inquire.
 #![tactic(auto)]
+
 ghost use Rattle.std.specs.Prelude.{◌<◌, length};
 ghost use Rattle.model.specs.Site.{yielded_or_remembered, on_inquire};
 ghost use Rattle.event_effects.specs.Effects.{CarriesOut};

@@ -1,5 +1,6 @@
 // What a site does when it leaves.
 #![tactic(auto)]
+
 ghost use Rattle.std.specs.Prelude.{◌≤◌, ◌+◌, true, ◌≡◌, length};
 ghost use Rattle.rig.specs.Limits.{number_limit};
 ghost use Rattle.model.specs.Leave.{hand_on, hand_ons, left};

@@ -1,5 +1,6 @@
 // What a site does with a reply.
 #![tactic(auto)]
+
 ghost use Rattle.std.specs.Prelude.{◌<◌, ◌≤◌, length};
 ghost use Rattle.model.specs.Site.{entered_or_yielded, on_reply};
 ghost use Rattle.event_effects.specs.Effects.{CarriesOut};

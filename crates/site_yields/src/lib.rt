@@ -1,5 +1,6 @@
 // What a site does when it yields: one member, or every one that it must.
 #![tactic(auto)]
+
 ghost use Rattle.std.specs.Prelude.{◌<◌, ◌≤◌, ◌+◌, length};
 ghost use Rattle.model.specs.Site.{failed_set, yielded, yielded_up_to};
 ghost use Rattle.event_effects.specs.Effects.{CarriesOut};

@@ -1,5 +1,6 @@
 // A player that goes on from a saved text.
 #![tactic(auto)]
+
 ghost use Rattle.std.specs.Prelude.{◌≡◌};
 ghost use Rattle.model_shaped.specs.Kept.{has_granted, all_granted};
 ghost use Rattle.player_state.specs.State.{PlayingFits};

@@ -1,6 +1,7 @@
 // What the program `state` prints at the end of its input: a stop line, or the saved text of the player's state.
 #![tactic(auto)]
-ghost use Rattle.list_rows.specs.State.{before};
+
+ghost use Rattle.list_rows.specs.State.{stored};
 ghost use Rattle.player_state.specs.State.{known, cut_line};
 ghost use Rattle.player_printing.specs.Printing.{Printed};
 ghost use Rattle.state_text.specs.State.{stop_text, saved_text, at_end};
@@ -33,7 +34,7 @@ pub fn save_end(s: Playing, page: &mut TextPage) -> usize
 
 // The saved text of a state, or the stop of a misshapen one; answers its length.
 fn put_saved(page: &mut TextPage, rig: Rig, tables: &Tables, list: &Rows, count: usize) -> usize
-    ensures { Printed (saved_text (before rig tables list count)) page.old page.new result }
+    ensures { Printed (saved_text (stored rig tables.now list.now count)) page.old page.new result }
 {
     if count > Rig::MESSAGES {
         return put_stop(page, 10);

@@ -1,5 +1,6 @@
 // What the program `state` prints.
 #![tactic(auto)]
+
 ghost use Rattle.std.specs.Prelude.{◌≡◌, ◌≤◌, cond, length, drop};
 ghost use Rattle.state_text.specs.State.{last_line};
 ghost use Rattle.state_text.specs.Whole.{SavedAtEnd, SavedAtStop, SavePrinted, SaveFromPrinted, PlayFromPrinted};

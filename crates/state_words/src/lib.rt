@@ -1,5 +1,6 @@
 // What the words of the program `state` ask: `save`, `save SAVED`, `play SAVED`.
 #![tactic(auto)]
+
 ghost use Rattle.std.specs.Prelude.{◌≡◌};
 ghost use Rattle.state_words.specs.Words.{alone, with_file, command_of};
 

@@ -16,11 +16,11 @@ returns-then-former-k c = rw (ne_eqb _ 0 c.if-former-eq0.false, eq-eqb _ _ c.if-
 pub returns-then-not-before_holder : goal.returns-then-not-before_holder
 unfolding fail_former
 returns-then-not-before_holder c =
-    let b = sym c-holder.ensures ∙ not-true _ c.if-not-before_holder.true-raw in
+    let b = sym c.before_holder.ensures ∙ not-true _ c.if-not-before_holder.true-raw in
     rw (ne_eqb _ 0 c.if-former-eq0.false, ne_eqb _ _ c.if-former-k.false, b) sent-none
 
 pub returns : goal.returns
 unfolding fail_former
 returns c =
-    let b = sym c-holder.ensures ∙ not-false _ c.if-not-before_holder.false-raw in
+    let b = sym c.before_holder.ensures ∙ not-false _ c.if-not-before_holder.false-raw in
     rw (ne_eqb _ 0 c.if-former-eq0.false, ne_eqb _ _ c.if-former-k.false, b) (sent-one c.fail_to-told.ensures c.append.ensures)

@@ -6,5 +6,5 @@ use Rattle.arbiter_fails.proofs.fail_to.Goals as goal
 pub returns : goal.returns
 returns c =
     let a = c.args in
-    let made : c.fail.result ≡ fail a.t1.number a.k c.queued_at-seq.result = c.fail.ensures in
-    made ∙ ap (λ seq. fail a.t1.number a.k seq) c.queued_at-seq.ensures
+    let made : c.fail.result ≡ fail a.d.number a.k c.queued_at-seq.result = c.fail.ensures in
+    made ∙ ap (λ seq. fail a.d.number a.k seq) c.queued_at-seq.ensures

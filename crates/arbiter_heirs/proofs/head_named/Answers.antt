@@ -17,13 +17,13 @@ pub returns-then-not-before_holder : goal.returns-then-not-before_holder
 unfolding head_named inquire_if_before head_of
 returns-then-not-before_holder c =
     let e = c.head-h.ensures in
-    let b = rw e at (sym c-holder.ensures ∙ not-true _ c.if-not-before_holder.true-raw) in
+    let b = rw e at (sym c.before_holder.ensures ∙ not-true _ c.if-not-before_holder.true-raw) in
     rw (ne_eqb _ 0 (rw e at c.if-h-eq0.false), b) (sent-one (rw e at c.transfer_of.ensures) c.append-named.ensures)
 
 pub returns : goal.returns
 unfolding head_named inquire_if_before head_of
 returns c =
     let e = c.head-h.ensures in
-    let b = rw e at (sym c-holder.ensures ∙ not-false _ c.if-not-before_holder.false-raw) in
+    let b = rw e at (sym c.before_holder.ensures ∙ not-false _ c.if-not-before_holder.false-raw) in
     let named = sent-one (rw e at c.transfer_of.ensures) c.append-named.ensures in
     rw (ne_eqb _ 0 (rw e at c.if-h-eq0.false), b) (sent-more named (sent-one c.inquire_of.ensures c.append.ensures))

@@ -10,4 +10,7 @@ put_decimal-requires c = omega (arith, decimal-length c.args.n)
 pub returns : goal.returns
 returns c =
     let l = decimal-length c.args.n in
-    (wrote-more c.put_word-next.ensures c.put_decimal.ensures, omega arith)
+    record {
+      wrote = wrote-more c.put_word-next.ensures c.put_decimal.ensures;
+      upper_bound = omega arith;
+    }

@@ -1,10 +1,10 @@
 -- `waiting`: how many of the sites passed so far wait.
-use Prim.Native.Nat.{◌-◌, min}
-use mathlib.Core.Path.{◌≡◌, sym, ◌∙◌}
+use Prim.Native.Nat.{min}
+use mathlib.Core.Path.{◌≡◌, ◌∙◌}
 use native.Mathlib.Omega.{arith}
 use native.Mathlib.Numerals.{add-one}
 use borrow.Author.Rules.{rules}
-use lib.ListN.{length, length-map}
+use lib.ListN.{length}
 use Rattle.rig.specs.Limits.{site_limit}
 use Rattle.basics.specs.Helpers.{count}
 use Rattle.model.specs.Tables.{at}
@@ -30,7 +30,7 @@ pub returns : goal.returns
 unfolding waiting_count
 returns c =
     let l = c.loop-i in
-    let rig = c.args.t1 in
-    let long : length rig.sites ≡ site_limit = sym (length-map rig.sites _) ∙ c.well-formed.0.1.1.1.1.0.1.0.1 in
+    let rig = c.args.rig in
+    let long : length rig.sites ≡ site_limit = c.well_formed.0.1.1.1.1.0.1.0.1 in
     let end : l.i ≡ min rig.size site_limit = omega arith in
     rw end at l.invariant.2 ∙ waiting-stored rig long rig.size

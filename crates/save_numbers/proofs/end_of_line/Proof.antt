@@ -1,7 +1,7 @@
 -- `end_of_line`: what `find` finds.
 use borrow.Author.Rules.{rules}
 use lib.Seq.{take-length}
-use Rattle.bytes.specs.Bytes.{slice}
+use Rattle.byte_scan.specs.Bytes.{slice}
 use Rattle.save_numbers.specs.Places.{line_end}
 use Rattle.save_numbers.proofs.end_of_line.Statement.{statement}
 use Rattle.save_numbers.proofs.end_of_line.Tie as tie

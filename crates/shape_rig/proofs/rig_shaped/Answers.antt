@@ -14,11 +14,12 @@ use Rattle.model.specs.Tables.{at}
 use Rattle.model.specs.Shape.{place_shaped, rig_shaped}
 use borrow.Author.Rules.{rules}
 use Rattle.shape_rig.proofs.rig_shaped.Goals as goal
+use Rattle.shape_rig.proofs.rig_shaped.Goals.{Else-rig-gt-EVENTS}
 
 -- once these pass, the places decide
-places : (c : Else2) {r : Bool}
-    → r ≡ all (place_shaped c.args.t1) site_limit
-    → r ≡ rig_shaped c.args.t1
+places : (c : Else-rig-gt-EVENTS) {r : Bool}
+    → r ≡ all (place_shaped c.args.rig) site_limit
+    → r ≡ rig_shaped c.args.rig
 unfolding rig_shaped
 places c e = and-passed (eq-eqb _ 0 (sym c.judge.ensures ∙ c.if-judge-ne0.false)) (and-passed (le-leb _ _ c.if-rig-gt-EVENTS.false) e)
 
@@ -38,7 +39,7 @@ pub returns-then-not-place_shaped : goal.returns-then-not-place_shaped
 unfolding place_shaped at
 returns-then-not-place_shaped c =
     let l = c in
-    places l
+    places (goal.at.returns-then-not-place_shaped c).Else-rig-gt-EVENTS
     (sym (all-fails _ site_limit (suc l.loop-i.i) (omega arith) (omega arith) (failed (rw add-one at c.place_shaped.ensures) c.if-not-place_shaped.true-raw)))
 
 pub loop-i-preserved : goal.loop-i-preserved
@@ -50,4 +51,4 @@ loop-i-preserved c =
 pub returns : goal.returns
 returns c =
     let l = c in
-    places l (sym (rw (le_antisymm l.loop-i.invariant.0 c.loop-i-test.false) at l.loop-i.invariant.1))
+    places (goal.at.returns c).Else-rig-gt-EVENTS (sym (rw (le_antisymm l.loop-i.invariant.0 c.loop-i-test.false) at l.loop-i.invariant.1))

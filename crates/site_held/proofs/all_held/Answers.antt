@@ -15,7 +15,7 @@ use Rattle.site_held.proofs.all_held.Goals as goal
 pub loop-left-init : goal.loop-left-init
 unfolding all
 loop-left-init c =
-    let d = c.args.t1 in
+    let d = c.args.d in
     let word : d.size ≤ word_bits = omega arith in
     rw (walk_first (all (held_if d)) d.size d.members (held-idle d) word c.members_within-left.ensures) (walk_begins d.size d.members word c.members_within-left.ensures, refl)
 
@@ -27,7 +27,7 @@ member_held-requires c =
 pub returns-then-not-member_held : goal.returns-then-not-member_held
 unfolding all_held
 returns-then-not-member_held c =
-    let d = c.args.t1 in
+    let d = c.args.d in
     let u = turn c.loop-left.invariant.0 (omega arith) c.lowest_member-j.ensures in
     let free : held_if d _ ≡ false = held-member d _ u.visits c.member_held.ensures ∙ not-true _ c.if-not-member_held.true-raw in
     sym (all-fails (held_if d) d.size _ (omega (arith, u.next)) u.high free)
@@ -41,7 +41,7 @@ loop-left-smaller c = turn-less (turn c.loop-left.invariant.0 (omega arith) c.lo
 pub loop-left-preserved : goal.loop-left-preserved
 unfolding all
 loop-left-preserved c =
-    let d = c.args.t1 in
+    let d = c.args.d in
     let l = c.loop-left in
     let u = turn c.loop-left.invariant.0 (omega arith) c.lowest_member-j.ensures in
     let held = held-member d _ u.visits c.member_held.ensures ∙ not-false _ c.if-not-member_held.false-raw in
@@ -50,5 +50,5 @@ loop-left-preserved c =
 pub returns : goal.returns
 unfolding all_held
 returns c =
-    let d = c.args.t1 in
+    let d = c.args.d in
     sym (sym (walk-last (all (held_if d)) d.size d.members (held-idle d) c.loop-left-test.false) ∙ c.loop-left.invariant.1)

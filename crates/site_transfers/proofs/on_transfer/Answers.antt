@@ -11,13 +11,13 @@ pub returns-then-n-g : goal.returns-then-n-g
 unfolding on_transfer
 returns-then-n-g c =
     let a = c.args in
-    let d = a.t1 in
+    let d = a.d in
     let low = c.requires.low in
     rw (at_read 0 d.held _ low, eq-eqb a.n (get_or d.held (a.j - 1) 0) c.if-n-g.true, put-write d.heir _ _ low) (carries-sent sent-none)
 
 pub returns : goal.returns
 unfolding on_transfer
 returns c =
-    let d = c.args.t1 in
+    let d = c.args.d in
     let low = c.requires.low in
     rw (at_read 0 d.held _ low, ne_eqb _ _ c.if-n-g.false) (carries-sent sent-none)

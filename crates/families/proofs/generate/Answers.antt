@@ -1,0 +1,38 @@
+-- `families::generate` meets its contract, for every family and every buffer.
+use mathlib.Core.Path.{refl, sym, ◌∙◌}
+use native.Mathlib.Omega.{arith}
+use Rattle.families.specs.Made.{made, filled}
+use Rattle.family_rules.proofs.Parameters.{listed-computed}
+use Rattle.family_rules.proofs.Accepted.{accepted}
+use Rattle.families.proofs.Codes.{code-13, code-12, code-0}
+use Rattle.families.proofs.generate.Goals as goal
+
+pub returns-then-sets-ne-SITES : goal.returns-then-sets-ne-SITES
+unfolding made filled
+returns-then-sets-ne-SITES c = rw (code-13 c.args.family _ c.if-sets-ne-SITES.true) record {
+  determined = (refl, refl);
+  accepted = λ e. absurd (omega arith);
+}
+
+pub returns-then-not-is_listed : goal.returns-then-not-is_listed
+unfolding made filled
+returns-then-not-is_listed c = rw (code-12 c.args.family _ c.if-sets-ne-SITES.false (sym c.is_listed.ensures ∙ c.if-not-is_listed.true)) record {
+  determined = (refl, refl);
+  accepted = λ e. absurd (omega arith);
+}
+
+pub fill-requires : goal.fill-requires
+fill-requires c = (sym c.is_listed.ensures ∙ c.if-not-is_listed.false, c.if-sets-ne-SITES.false)
+
+pub size_of-requires : goal.size_of-requires
+size_of-requires c = listed-computed _ (sym c.is_listed.ensures ∙ c.if-not-is_listed.false)
+
+pub returns : goal.returns
+unfolding made filled
+returns c =
+    let l = sym c.is_listed.ensures ∙ c.if-not-is_listed.false in
+    let e = c.fill.ensures in
+    rw (code-0 c.args.family _ c.if-sets-ne-SITES.false l, c.size_of.ensures) record {
+      determined = (refl, e);
+      accepted = λ z. rw e (accepted _ l);
+    }

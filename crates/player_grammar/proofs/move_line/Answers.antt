@@ -1,0 +1,41 @@
+-- `move_line`: a number, the first comma, and a number.
+use Prim.Native.Nat.{◌+◌}
+use mathlib.Core.Path.{◌≡◌, sym, ◌∙◌}
+use native.Mathlib.Nat.{zero-add}
+use native.Mathlib.Numerals.{add-one}
+use native.Mathlib.Omega.{arith}
+use lib.ListN.{drop}
+use lib.Seq.{length-take-le}
+use Rattle.player_numbers.specs.Numbers.{number}
+use Rattle.player_grammar.specs.Grammar.{before, numbers, move_line}
+use Rattle.player_grammar.proofs.Words.{behind}
+use Rattle.player_grammar.proofs.Lists.{comma, found-comma, numbers-comma, numbers-last, one_number, move-before, move-malformed, move-single}
+use Rattle.player_grammar.proofs.move_line.Goals as goal
+use Rattle.player_grammar.proofs.move_line.Goals.{After-read_number}
+
+-- the number before the comma, and those behind it
+comma-found : (c : After-read_number) → move_line (numbers c.args.list.now) ≡ move_line (before c.read_number.result (numbers (drop (c.find-end.result + 1) c.args.list.now)))
+comma-found c =
+    let bs = c.args.list.now in
+    let end = c.find-end.result in
+    let e : end ≡ comma bs = found-comma bs 0 end c.find-end.ensures.value ∙ zero-add _ in
+    rw (c.read_number.ensures, add-one, e, numbers-comma bs (rw e at c.if-end-list.false))
+
+pub returns-then-end-list : goal.returns-then-end-list
+returns-then-end-list c =
+    let bs = c.args.list.now in
+    let end = c.find-end.result in
+    let e : end ≡ comma bs = found-comma bs 0 end c.find-end.ensures.value ∙ zero-add _ in
+    rw (numbers-last bs (rw e at c.if-end-list.true)) (sym (move-single (number bs)))
+
+pub slice_bounds-read_number-end : goal.slice_bounds-read_number-end
+slice_bounds-read_number-end c = sym (length-take-le _ _ (omega arith))
+
+pub returns-in_default : goal.returns-in_default
+returns-in_default c = sym (comma-found (goal.at.returns-in_default c).After-read_number ∙ rw c.in_default.is (move-malformed _))
+
+pub returns-in_default-read_number : goal.returns-in_default-read_number
+returns-in_default-read_number c = sym (comma-found (goal.at.returns-in_default-read_number c).After-read_number ∙ rw c.in-Of.is (move-before _ _ ∙ one_number _ _ ∙ rw (← behind _ _, ← c.read_number-2.ensures, c.in_default-read_number.is)))
+
+pub returns : goal.returns
+returns c = sym (comma-found (goal.at.returns c).After-read_number ∙ rw c.in-Of.is (move-before _ _ ∙ one_number _ _ ∙ rw (← behind _ _, ← c.read_number-2.ensures, c.in-Of-read_number.is)))
