@@ -1,6 +1,6 @@
 -- Why a stretch of events ended.
 use Prim.Native.Nat.{ℕ, ◌-◌, ◌≤◌}
-use mathlib.Core.List.{List, [], ◌∷◌}
+use mathlib.Core.List.{List}
 use mathlib.Core.Logic.{inr, ⊎_elim}
 use mathlib.Core.Path.{◌≡◌, ap, ◌∙◌}
 use native.Mathlib.Omega.{arith}
@@ -8,20 +8,12 @@ use borrow.Author.Tests.{leb-true, leb-false}
 use lib.Dec.{leb}
 use lib.ListN.{length}
 use lib.Seq.{length-sets}
-use types.Run.{OneOf, miss}
-use denote.Enum.Declared.{tag_of}
 use Rattle.player_printing.specs.Printing.{page_length}
 use Rattle.player_text.specs.declared.Player.{Player}
-use Rattle.player_text.specs.declared.Stage.{Stage}
 use Rattle.player_text.specs.declared.Stage.TheVariants.{Over}
-use Rattle.player_text.specs.contracts.Stage as stage
 use Rattle.player_events.specs.declared.Stretch.{Stretch}
 use Rattle.player_events.specs.Stretches.{Stretches}
 use Rattle.client_steps.specs.Ends.{EndsAt}
-
--- a stage of another case
-pub not-over : {s : Stage} → OneOf (0 ∷ 1 ∷ 2 ∷ []) (tag_of stage.the_type s) → s ≡ Over → ⊥
-not-over h e = miss (0 ∷ 1 ∷ 2 ∷ []) 3 tt (rw e at h)
 
 pub ends_at : {p : Player} {ts ts' : List (List (List ℕ))} {rows rows' : List (List ℕ)} {bytes out after : List ℕ} {from at : ℕ} {r : Stretch}
     → Stretches p ts ts' rows rows' bytes from out after at r → (r.player.stage ≡ Over → ⊥)

@@ -1,4 +1,3 @@
 -- Laws that belong to no one function.
-pub mod Callees
 pub mod Joined
 pub mod Lent

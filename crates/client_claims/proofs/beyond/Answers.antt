@@ -1,16 +1,10 @@
 -- `beyond`: the claims beside demand 3, one by one.
-use borrow.Author.Rules.{rules}
 use Rattle.model.specs.Always.{AlwaysShaped, AlwaysLong, NumbersSmall, NineByCount, NeverStray}
 use Rattle.client_claims.specs.Claims.{CodesOfRuns, NumbersOfRuns, ReplyTaken}
 use Rattle.client_claims.proofs.Runs.{reply-fits}
-use Rattle.client_claims.proofs.beyond.Statement.{statement}
-use Rattle.client_claims.proofs.beyond.Tie as tie
-use Rattle.model.proofs.beyond.Reads as beyond-reads
+use Rattle.client_claims.proofs.beyond.Goals as goal
 
-beyond-requires : tie.Need-beyond-requires
-beyond-requires c κs = search rules
-
-returns : tie.Need-returns
+pub returns : goal.returns
 unfolding AlwaysShaped AlwaysLong NumbersSmall NineByCount NeverStray CodesOfRuns NumbersOfRuns ReplyTaken
 returns c =
     let b = c.beyond.ensures in (
@@ -19,6 +13,3 @@ returns c =
       λ n sets list es p k. ((b.3 n sets list es p).clock k, (b.3 n sets list es p).grant k),
       λ n sets list es p m ms under. reply-fits _ m ms (rw under at (b.5 n sets list es p)),
     )
-
-pub beyond-spec : {M : Type 1} → statement M
-beyond-spec = tie.close (tie.spec beyond-requires returns)

@@ -1,29 +1,19 @@
 -- `deliveries`: the claims about deliveries, at the states of a run.
 use mathlib.Core.List.{◌++◌}
 use native.Mathlib.Omega.{arith}
-use borrow.Author.Rules.{rules}
 use Rattle.model.specs.Run.{fresh, run}
 use Rattle.model.specs.Always.{AlwaysShaped}
 use Rattle.model.specs.Settling.{DeliveriesEnd, MeasureBounded, Deliverable, SettledServes}
 use Rattle.model.proofs.Reached.{run-append}
 use Rattle.model.proofs.Codes.{run_long}
 use Rattle.client_claims.specs.Claims.{DeliveriesServe}
-use Rattle.client_claims.proofs.deliveries.Statement.{statement}
-use Rattle.client_claims.proofs.deliveries.Tie as tie
-use Rattle.model.proofs.beyond.Reads as beyond-reads
-use Rattle.model.proofs.settles.Reads as settles-reads
+use Rattle.client_claims.proofs.deliveries.Goals as goal
 
-settles-requires : tie.Need-settles-requires
-settles-requires c κs = search rules
-
-beyond-requires : tie.Need-beyond-requires
-beyond-requires c κs = search rules
-
-returns : tie.Need-returns
+pub returns : goal.returns
 unfolding AlwaysShaped DeliveriesEnd MeasureBounded Deliverable SettledServes DeliveriesServe fresh
 returns c =
     let b = c.beyond.ensures in
-    let d = c.before.settles.ensures in (
+    let d = c.settles.ensures in (
       b.0,
       λ n sets list es ds p long none.
           let f = fresh n sets list in
@@ -36,6 +26,3 @@ returns c =
             goes = d.6 (run s ds) (rw then at (b.1 n sets list (es ++ ds) p).0) (run_long ds s (run_long es f long));
           },
     )
-
-pub deliveries-spec : {M : Type 1} → statement M
-deliveries-spec = tie.close (tie.spec settles-requires beyond-requires returns)
