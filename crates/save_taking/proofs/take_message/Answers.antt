@@ -5,6 +5,6 @@ pub returns : goal.returns
 returns c =
     let e = c.take_numbers-taken.ensures in
     record {
-        value = rw e;
-        list_after = rw (c.row.ensures, c.message_from.ensures, e);
+      value = rw e;
+      list_after = rw (c.row.ensures, c.message_from.ensures, e);
     }

@@ -5,6 +5,6 @@ pub returns : goal.returns
 returns c =
     let e = c.take_row-queued.ensures in
     record {
-        value = rw e;
-        tables_after = rw e;
+      value = rw e;
+      tables_after = rw e;
     }

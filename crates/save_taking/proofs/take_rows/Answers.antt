@@ -18,6 +18,6 @@ returns c =
     let second = c.take_row-heir.ensures in
     let third = c.take_row-inquired.ensures in
     record {
-        value = rw (third, second, first);
-        tables_after = rw (third, second, first);
+      value = rw (third, second, first);
+      tables_after = rw (third, second, first);
     }
