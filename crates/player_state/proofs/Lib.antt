@@ -1,4 +1,3 @@
 -- Laws of the player's own state.
-pub mod FieldRead
 pub mod Fields
 pub mod First
