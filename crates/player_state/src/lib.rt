@@ -31,7 +31,7 @@ pub fn player_of(s: Playing) -> Player
 }
 
 // Two fields, and a state made of its fields. Only these three functions read an array of arrays in a state or write one out as a
-// literal: Rattle does not walk either, and their proofs are by hand.
+// literal: the borrow checker covers neither the tables' field nor the literal, and the proofs of `tables_of` and `made_of` are by hand.
 pub fn tables_of(s: Playing) -> Tables
     ensures { result ≡ s.tables }
 {
