@@ -1,5 +1,5 @@
 -- `play_on`: the player's state fits at every turn.
-use Rattle.std.proofs.Common.{◌-◌, ◌≤◌, length}
+use Rattle.std.proofs.Common.{◌-◌, ◌≤◌}
 use Rattle.player_state.specs.State.{PlayingFits}
 use Rattle.player_console.proofs.play_on.Given as goal
 

@@ -1,5 +1,5 @@
 -- `save_on`: the player's state fits at every turn.
-use Rattle.std.proofs.Common.{◌-◌, ◌≤◌, length}
+use Rattle.std.proofs.Common.{◌-◌, ◌≤◌}
 use Rattle.player_state.specs.State.{PlayingFits}
 use Rattle.state_input.proofs.save_on.Given as goal
 
