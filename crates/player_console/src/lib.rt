@@ -1,8 +1,8 @@
 // A text of events from a reader, played to its end: the lines that document 01 fixes go to a writer. What is read is handed to the player
-// as it comes, in buffers of a fixed size. A read or a write that fails ends the run with its error.
+// as it comes, in buffers of a fixed size. A read that fails is the end of the input; a write that fails ends the run with its error.
 #![tactic(auto)]
 
-ghost use Rattle.std.specs.Prelude.{◌≤◌, length, IfOk};
+ghost use Rattle.std.specs.Prelude.{◌≤◌, length};
 ghost use Rattle.player_state.specs.State.{PlayingFits};
 
 use player_playing::{Played, finish, part};
@@ -16,12 +16,12 @@ const INPUT: usize = 8_192;
 
 const OUTPUT: usize = 32_768;
 
-// An inner call: reads at most `room` bytes; answers how many came, 0 at the end of the input.
-pub fn read_some<R: Read>(source: &mut R, input: &mut [u8], room: usize) -> io::Result<usize>
+// An inner call: reads at most `room` bytes; answers how many came, 0 at the end of the input, and where it cannot be read.
+pub fn read_some<R: Read>(source: &mut R, input: &mut [u8], room: usize) -> usize
     requires { room ≤ length input.old }
-    ensures { IfOk result (λ n. n ≤ room) }
+    ensures { result ≤ room }
 {
-    source.read(&mut input[..room])
+    source.read(&mut input[..room]).unwrap_or(0)
 }
 
 // How many bytes are read at once: `room`, or the whole buffer of `len` bytes where that is none of 1 to `len`.
@@ -59,7 +59,7 @@ pub fn play_on<R: Read, W: Write>(
     };
     let mut turns = u64::MAX;
     while turns > 0 {
-        let got = read_some(source, &mut input, most)?;
+        let got = read_some(source, &mut input, most);
         if got == 0 {
             let s = r.playing;
             let n = finish(s, &mut page);

@@ -2,7 +2,6 @@
 // has, and where bytes written go, no contract can say; the stored output of `state_cases` shows it.
 #![tactic(auto)]
 
-ghost use Rattle.std.specs.Prelude.{IfOk};
 ghost use Rattle.host_bytes.specs.Counts.{IsPrefixLen};
 
 use host_bytes::{PATH, open_named, put_failure, read_full, word};
@@ -62,7 +61,7 @@ fn go_on<R: Read, W: Write, E: Write>(
     errors: &mut E,
 ) -> io::Result<()> {
     let mut text = [0u8; FILE];
-    let file = read_file(rt, at, &mut text, errors)?;
+    let file = read_file(rt, at, &mut text, errors);
     if !file.found {
         return Ok(());
     }
@@ -91,25 +90,25 @@ fn read_file<E: Write>(
     at: usize,
     text: &mut [u8],
     errors: &mut E,
-) -> io::Result<FileRead>
-    ensures { IfOk result (λ read. IsPrefixLen read.length text.new) }
+) -> FileRead
+    ensures { IsPrefixLen result.length text.new }
 {
     let mut path = [0u8; PATH];
     let length = word(rt, at, &mut path);
     match open_named(rt, &path[..length]) {
         Ok(mut file) => {
-            let got = read_full(&mut file, text)?;
-            Ok(FileRead {
+            let got = read_full(&mut file, text);
+            FileRead {
                 found: true,
                 length: got,
-            })
+            }
         }
         Err(error) => {
-            put_failure(errors, &path[..length], error)?;
-            Ok(FileRead {
+            put_failure(errors, &path[..length], error);
+            FileRead {
                 found: false,
                 length: 0,
-            })
+            }
         }
     }
 }

@@ -39,7 +39,7 @@ pub fn save_on<R: Read, W: Write>(
     };
     let mut turns = u64::MAX;
     while turns > 0 {
-        let got = read_some(source, &mut input, most)?;
+        let got = read_some(source, &mut input, most);
         if got == 0 {
             let s = r.playing;
             let n = save_end(s, &mut page);
