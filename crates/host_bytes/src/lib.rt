@@ -2,6 +2,7 @@
 // contract can say.
 #![tactic(auto)]
 
+ghost use Rattle.std.specs.Prelude.{IfOk};
 ghost use Rattle.host_bytes.specs.Counts.{IsPrefixLen};
 
 use std::env::FillError;
@@ -40,27 +41,23 @@ pub fn open_named<R: Files>(rt: &R, name: &[u8]) -> io::Result<R::File> {
     }
 }
 
-// Reads until the buffer is full or the input ends, also where it cannot be read; answers how many bytes now stand at its start.
-pub fn read_full(from: &mut impl Read, buf: &mut [u8]) -> usize
-    ensures { IsPrefixLen result buf.new }
+// Reads until the buffer is full or the input ends; answers how many bytes now stand at its start.
+pub fn read_full(from: &mut impl Read, buf: &mut [u8]) -> io::Result<usize>
+    ensures { IfOk result (λ n. IsPrefixLen n buf.new) }
 {
     let mut done = 0;
     while done < buf.len() {
-        let n = from.read(&mut buf[done..]).unwrap_or(0);
+        let n = from.read(&mut buf[done..])?;
         if n == 0 {
             break;
         }
         done += n;
     }
-    done
+    Ok(done)
 }
 
-// Writes a line, as far as it can be written: the name of a file, and why it could not be opened.
-pub fn put_failure(to: &mut impl Write, name: &[u8], error: io::Error) {
-    put_line(to, name, error).unwrap_or(())
-}
-
-fn put_line(to: &mut impl Write, name: &[u8], error: io::Error) -> io::Result<()> {
+// Writes a line: the name of a file, and why it could not be opened.
+pub fn put_failure(to: &mut impl Write, name: &[u8], error: io::Error) -> io::Result<()> {
     let text = InlineText::<120>::of(error);
     to.write_all(name)?;
     to.write_all(b": ")?;

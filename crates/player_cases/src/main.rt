@@ -24,10 +24,7 @@ fn play_case<W: Write, E: Write>(
     to.write_all(b"\n")?;
     match open_named(rt, &path[..length]) {
         Ok(mut text) => player_console::play_from(&mut text, PIECE, to),
-        Err(error) => {
-            put_failure(errors, &path[..length], error);
-            Ok(())
-        }
+        Err(error) => put_failure(errors, &path[..length], error),
     }
 }
 

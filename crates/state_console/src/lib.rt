@@ -84,7 +84,8 @@ struct FileRead {
     length: usize,
 }
 
-// Reads the file that argument `at` names, as much of it as there is room for. Where it cannot be opened, says so to standard error.
+// Reads the file that argument `at` names, as much of it as there is room for; one that cannot be read is taken as empty. Where it cannot be opened, says so
+// to standard error.
 fn read_file<E: Write>(
     rt: &(impl Env + Files),
     at: usize,
@@ -97,14 +98,14 @@ fn read_file<E: Write>(
     let length = word(rt, at, &mut path);
     match open_named(rt, &path[..length]) {
         Ok(mut file) => {
-            let got = read_full(&mut file, text);
+            let got = read_full(&mut file, text).unwrap_or(0);
             FileRead {
                 found: true,
                 length: got,
             }
         }
         Err(error) => {
-            put_failure(errors, &path[..length], error);
+            put_failure(errors, &path[..length], error).unwrap_or(());
             FileRead {
                 found: false,
                 length: 0,
