@@ -55,6 +55,9 @@ fn put_digit(numbers: &mut [u64], i: usize, b: u8)
     numbers[i] = grown(numbers[i], b);
 }
 
+// What stands between two numbers of a line.
+const COMMA: u8 = b',';
+
 // The numbers of a line; 0 stands for those that it lacks.
 pub fn numbers_in(line: &[u8]) -> Numbers
     ensures { result ≡ numbers_in line.now }
@@ -63,7 +66,7 @@ pub fn numbers_in(line: &[u8]) -> Numbers
     let mut i = 0;
     for j in 0..line.len() {
         let b = line[j];
-        if b == b',' {
+        if b == COMMA {
             i = i + 1;
         } else {
             put_digit(&mut numbers, i, b);
