@@ -51,10 +51,7 @@ pub fn grant_head(d: Desk, out: &mut [Row], count: usize) -> Acted
 {
     let h = head(&d.queued, d.size);
     if h == 0 {
-        return Acted {
-            desk: d,
-            count: count,
-        };
+        return Acted { desk: d, count };
     }
     let n = queued_at(&d.queued, h);
     grant(d, out, count, h, n)

@@ -25,10 +25,7 @@ fn holder_releases(d: Desk, out: &mut [Row], count: usize, x: u64) -> Acted
         return grant_head(held_by(d, d.arbiter.grant, 0, 0), out, count);
     }
     if queued_at(&d.queued, x) == 0 {
-        return Acted {
-            desk: d,
-            count: count,
-        };
+        return Acted { desk: d, count };
     }
     heir_takes_over(d, out, count, x)
 }
@@ -53,8 +50,5 @@ pub fn on_release(d: Desk, out: &mut [Row], count: usize, k: u64, x: u64, n: u64
     if is_early(d, k, x, n) {
         return early_release(d, out, count, k);
     }
-    Acted {
-        desk: d,
-        count: count,
-    }
+    Acted { desk: d, count }
 }

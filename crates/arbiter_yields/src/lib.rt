@@ -20,10 +20,7 @@ pub fn on_yield(d: Desk, out: &mut [Row], count: usize, k: u64, n: u64) -> Acted
     ensures { CarriesOut (on_yield d k n) count out.old out.new result }
 {
     if !from_holder(d, k, n) {
-        return Acted {
-            desk: d,
-            count: count,
-        };
+        return Acted { desk: d, count };
     }
     let u = requeued(d, k, d.arbiter.seq);
     grant_head(held_by(u, d.arbiter.grant, 0, 0), out, count)

@@ -36,7 +36,7 @@ pub fn votes_rig(n: u64, votes: &[u64; Rig::SITES]) -> Answer
     let code = generate_by_votes(n, votes, &mut sets);
     if code != 0 {
         return Answer {
-            code: code,
+            code,
             rig: resting(0, sets),
         };
     }

@@ -43,8 +43,5 @@ pub fn deliver_found(
     let done = deliver(
         size, accepted, set, site, arbiter, tables, list, count, out, a, b,
     );
-    Delivery {
-        found: found,
-        done: done,
-    }
+    Delivery { found, done }
 }

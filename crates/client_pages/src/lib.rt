@@ -49,10 +49,7 @@ pub fn line_page(p: Player, tables: &mut Tables, list: &mut Rows, bytes: &[u8]) 
     let mut page = [b' '; PAGE_LENGTH];
     let said = line(p, tables, list, &mut page, bytes);
     let player = said.player;
-    LinePage {
-        player: player,
-        page: page,
-    }
+    LinePage { player, page }
 }
 
 // The end of the input.

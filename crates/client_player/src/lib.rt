@@ -35,7 +35,7 @@ pub fn two_parts(s: Playing, given: &[u8], cut: usize, out: &mut [u8]) -> Played
     let q = part(r.playing, &given[cut..], &mut out[at..]);
     let playing = q.playing;
     Played {
-        playing: playing,
+        playing,
         taken: r.taken + q.taken,
         written: at + q.written,
     }
@@ -51,17 +51,17 @@ pub fn play_text(text: &[u8], out: &mut [u8]) -> Told
     let over = is_over(r.playing);
     if over {
         return Told {
-            taken: taken,
+            taken,
             written: at,
-            over: over,
+            over,
             whole: true,
         };
     }
     if taken < text.len() || out.len() - at < PAGE_LENGTH {
         return Told {
-            taken: taken,
+            taken,
             written: at,
-            over: over,
+            over,
             whole: false,
         };
     }
@@ -69,9 +69,9 @@ pub fn play_text(text: &[u8], out: &mut [u8]) -> Told
     let n = finish(r.playing, &mut page);
     let end = put_word(out, at, &page[..n]);
     Told {
-        taken: taken,
+        taken,
         written: end,
-        over: over,
+        over,
         whole: true,
     }
 }

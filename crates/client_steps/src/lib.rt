@@ -53,11 +53,11 @@ pub fn play_stretch(
     let stage = player.stage;
     match stage {
         Stage::Over => Ending {
-            stretch: stretch,
+            stretch,
             done: false,
         },
         _ => Ending {
-            stretch: stretch,
+            stretch,
             done: PAGE_LENGTH <= out.len() - at,
         },
     }

@@ -42,8 +42,5 @@ pub fn deliver(d: Desk, m: Message, out: &mut [Row], count: usize) -> Acted
     if m.kind == Message::TRANSFER {
         return on_transfer(d, m.from, m.about, m.number, out, count);
     }
-    Acted {
-        desk: d,
-        count: count,
-    }
+    Acted { desk: d, count }
 }

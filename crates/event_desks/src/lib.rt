@@ -14,11 +14,11 @@ pub fn desk(size: u64, s: u64, set: u64, site: Site, arbiter: Arbiter, tables: &
 {
     let i = (s - 1) as usize;
     Desk {
-        size: size,
+        size,
         number: s,
         members: set,
-        site: site,
-        arbiter: arbiter,
+        site,
+        arbiter,
         held: tables[Rig::HELD][i],
         heir: tables[Rig::HEIR][i],
         inquired: tables[Rig::INQUIRED][i],

@@ -53,7 +53,7 @@ pub fn step(
     rig.accepted = counted_on(rig.accepted, done.code);
     Answer {
         code: done.code,
-        rig: rig,
+        rig,
         count: done.count,
     }
 }

@@ -31,10 +31,10 @@ impl Done {
         ensures { result ≡ refused code site arbiter count }
     {
         Done {
-            code: code,
-            site: site,
-            arbiter: arbiter,
-            count: count,
+            code,
+            site,
+            arbiter,
+            count,
         }
     }
 }

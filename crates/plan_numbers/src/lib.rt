@@ -48,7 +48,7 @@ fn gone_wrong(given: Given) -> Given
     Given {
         wrong: true,
         count: given.count,
-        numbers: numbers,
+        numbers,
     }
 }
 
@@ -61,7 +61,7 @@ fn with_number(given: Given, n: u64) -> Given
     Given {
         wrong: given.wrong,
         count: counted(given.count),
-        numbers: numbers,
+        numbers,
     }
 }
 

@@ -67,7 +67,7 @@ pub fn play_event(
         step: place,
         size: p.size,
         given: p.given,
-        sets: sets,
+        sets,
         rig: after,
         count: r.count,
         tested: p.tested,

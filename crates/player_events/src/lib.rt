@@ -65,13 +65,13 @@ fn player_at(p: Player, line: u64, step: u64, rig: Rig, count: usize) -> Player
     let sets = p.sets;
     Player {
         stage: Stage::Events,
-        line: line,
-        step: step,
+        line,
+        step,
         size: p.size,
         given: p.given,
-        sets: sets,
-        rig: rig,
-        count: count,
+        sets,
+        rig,
+        count,
         tested: p.tested,
     }
 }
@@ -87,8 +87,8 @@ fn stop_here(p: Player, out: &mut [u8], at: usize, from: usize) -> Stretch
     let to = put_word(out, at, &page[..n]);
     let player = said.player;
     Stretch {
-        player: player,
-        from: from,
+        player,
+        from,
         at: to,
     }
 }

@@ -36,7 +36,7 @@ pub fn part(s: Playing, given: &[u8], out: &mut [u8]) -> Played
     let cut = r.line;
     let playing = state_of(next, tables, list, cut, r.held);
     Played {
-        playing: playing,
+        playing,
         taken: r.from,
         written: r.at,
     }

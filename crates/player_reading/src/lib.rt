@@ -43,16 +43,16 @@ fn play_on(
         Stage::Events => if p.tested {
             Stretch {
                 player: p,
-                from: from,
-                at: at,
+                from,
+                at,
             }
         } else {
             play_events(p, tables, list, given, from, out, at)
         },
         _ => Stretch {
             player: p,
-            from: from,
-            at: at,
+            from,
+            at,
         },
     }
 }
@@ -100,7 +100,7 @@ pub fn read_part(
         player: q,
         line: line_bytes,
         held: n,
-        from: from,
-        at: at,
+        from,
+        at,
     }
 }

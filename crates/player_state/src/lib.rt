@@ -54,11 +54,11 @@ fn made_of(
     ensures { result ≡ record { player = player; tables = tables; list = list; line = line; held = held } }
 {
     Playing {
-        player: player,
-        tables: tables,
-        list: list,
-        line: line,
-        held: held,
+        player,
+        tables,
+        list,
+        line,
+        held,
     }
 }
 
@@ -115,10 +115,10 @@ pub fn going_on(rig: Rig, tables: &Tables, list: &Rows, count: usize, tested: bo
         step: 0,
         size: rig.size,
         given: rig.size,
-        sets: sets,
-        rig: rig,
-        count: count,
-        tested: tested,
+        sets,
+        rig,
+        count,
+        tested,
     };
     let line = [0u8; LINE_ROOM];
     made_of(player, *tables, *list, line, 0)

@@ -79,8 +79,8 @@ pub fn stop(p: Player, page: &mut Page, code: u64, line: u64) -> Said
         step: p.step,
         size: p.size,
         given: p.given,
-        sets: sets,
-        rig: rig,
+        sets,
+        rig,
         count: p.count,
         tested: p.tested,
     };

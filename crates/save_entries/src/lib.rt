@@ -35,10 +35,7 @@ pub fn entries_value(set: u64, row: &Numbers) -> Value
         count = count + 1;
         left = without_member(left, j);
     }
-    Value {
-        numbers: numbers,
-        count: count,
-    }
+    Value { numbers, count }
 }
 
 // The members of a set, ascending.
@@ -54,10 +51,7 @@ pub fn members_value(set: u64) -> Value
         count = count + 1;
         left = without_member(left, j);
     }
-    Value {
-        numbers: numbers,
-        count: count,
-    }
+    Value { numbers, count }
 }
 
 // The row whose entries at the members of a set are given, ascending; 0 at every other site.

@@ -27,10 +27,7 @@ pub fn first_five(a: u64, b: u64, c: u64, d: u64, e: u64, count: usize) -> Value
     numbers[2] = c;
     numbers[3] = d;
     numbers[4] = e;
-    Value {
-        numbers: numbers,
-        count: count,
-    }
+    Value { numbers, count }
 }
 
 pub fn number_value(n: u64) -> Value
@@ -85,7 +82,7 @@ pub fn arbiter_from(grant: u64, ns: &Numbers) -> Arbiter
     ensures { result ≡ arbiter_from grant ns.now }
 {
     Arbiter {
-        grant: grant,
+        grant,
         holder: ns[0],
         seq: ns[1],
     }

@@ -44,17 +44,17 @@ fn message_of(kind: u64, from: u64, to: u64, about: bool, fourth: u64, fifth: u6
 {
     if about {
         return Message {
-            kind: kind,
-            from: from,
-            to: to,
+            kind,
+            from,
+            to,
             about: fourth,
             number: fifth,
         };
     }
     Message {
-        kind: kind,
-        from: from,
-        to: to,
+        kind,
+        from,
+        to,
         about: 0,
         number: fourth,
     }

@@ -63,7 +63,7 @@ fn read_sets(text: &[u8], at: usize, n: usize) -> Taken
     }
     Taken {
         numbers: sets,
-        next: next,
+        next,
     }
 }
 
@@ -84,10 +84,7 @@ fn read_sites(text: &[u8], at: usize, n: usize, sets: &Numbers, tables: &mut Tab
         sites[i] = site;
         next = take_rows(text, taken.next, sets[i], i, tables);
     }
-    TakenSites {
-        sites: sites,
-        next: next,
-    }
+    TakenSites { sites, next }
 }
 
 // The arbiters, of which there are n, and their rows of the fourth table.
@@ -115,10 +112,7 @@ fn read_arbiters(
         let set = askers(sets, i as u64 + 1);
         next = take_queue(text, taken.next, set, i, tables);
     }
-    TakenArbiters {
-        arbiters: arbiters,
-        next: next,
-    }
+    TakenArbiters { arbiters, next }
 }
 
 // The messages of the lines from place `at` on, unless they are more than the list has room for.
@@ -130,18 +124,12 @@ fn read_messages(text: &[u8], at: usize, list: &mut Rows) -> TakenMessages
     let mut count = 0;
     while next < text.len() {
         if count == Rig::MESSAGES {
-            return TakenMessages {
-                all: false,
-                count: count,
-            };
+            return TakenMessages { all: false, count };
         }
         next = take_message(text, next, list, count);
         count = count + 1;
     }
-    TakenMessages {
-        all: true,
-        count: count,
-    }
+    TakenMessages { all: true, count }
 }
 
 // An inner call, on blank tables and rows of zeros: the state that the lines of a text give. The tables and the list are written where the caller has them.
@@ -170,15 +158,15 @@ pub fn read_lines(text: &[u8], tables: &mut Tables, list: &mut Rows) -> Given
     let arbiters = queues.arbiters;
     let messages = read_messages(text, queues.next, list);
     let rig = Rig {
-        size: size,
-        sets: sets,
-        sites: sites,
-        arbiters: arbiters,
-        accepted: accepted,
+        size,
+        sets,
+        sites,
+        arbiters,
+        accepted,
     };
     Given {
         fits: messages.all,
-        rig: rig,
+        rig,
         count: messages.count,
     }
 }

@@ -32,7 +32,7 @@ pub fn read_rows(text: &[u8], len: usize, tables: &mut Tables, list: &mut Rows) 
     *tables = read;
     Answer {
         code: 0,
-        rig: rig,
+        rig,
         count: given.count,
     }
 }

@@ -51,8 +51,5 @@ pub fn write_rows(
 fn refused(code: u64) -> Saved
     ensures { result ≡ record { code = code; length = 0 } }
 {
-    Saved {
-        code: code,
-        length: 0,
-    }
+    Saved { code, length: 0 }
 }

@@ -51,10 +51,7 @@ pub fn take_numbers(text: &[u8], at: usize) -> Taken
     let end = end_of_line(text, at);
     let next = next_line(end, text.len());
     let numbers = numbers_in(&text[at..end]);
-    Taken {
-        numbers: numbers,
-        next: next,
-    }
+    Taken { numbers, next }
 }
 
 // An inner call: what the line that starts at place `at` says to the player.
@@ -65,10 +62,7 @@ pub fn take_line(text: &[u8], at: usize) -> TakenLine
     let end = end_of_line(text, at);
     let next = next_line(end, text.len());
     let line = meaning(&text[at..end]);
-    TakenLine {
-        line: line,
-        next: next,
-    }
+    TakenLine { line, next }
 }
 
 // The number of a line `sites=`; 0 for another line.
@@ -116,10 +110,10 @@ pub fn take_site(text: &[u8], at: usize) -> TakenSite
     let clock = first.numbers[0];
     let site = Site {
         mode: mode_from(&numbers),
-        clock: clock,
+        clock,
     };
     TakenSite {
-        site: site,
+        site,
         next: second.next,
     }
 }
@@ -135,7 +129,7 @@ pub fn take_arbiter(text: &[u8], at: usize) -> TakenArbiter
     let grant = first.numbers[0];
     let arbiter = arbiter_from(grant, &numbers);
     TakenArbiter {
-        arbiter: arbiter,
+        arbiter,
         next: second.next,
     }
 }

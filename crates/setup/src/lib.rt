@@ -45,10 +45,10 @@ pub fn resting(size: u64, sets: [u64; Rig::SITES]) -> Rig
     let sites = [site; Rig::SITES];
     let arbiters = [arbiter; Rig::SITES];
     Rig {
-        size: size,
-        sets: sets,
-        sites: sites,
-        arbiters: arbiters,
+        size,
+        sets,
+        sites,
+        arbiters,
         accepted: 0,
     }
 }
@@ -60,7 +60,7 @@ pub fn setup(size: u64, sets: &[u64]) -> Answer
     let code = judge(size, sets);
     if code != 0 {
         return Answer {
-            code: code,
+            code,
             rig: resting(0, [0; Rig::SITES]),
         };
     }

@@ -47,10 +47,7 @@ pub fn ask(d: Desk, out: &mut [Row], count: usize) -> Acted
     let seq = s.clock + 1;
     let sent = request_members(d, seq, out, count);
     let site = Site {
-        mode: Mode::Waiting {
-            seq: seq,
-            failed: false,
-        },
+        mode: Mode::Waiting { seq, failed: false },
         clock: seq,
     };
     Acted {

@@ -30,10 +30,7 @@ pub fn on_fail(d: Desk, number: u64, out: &mut [Row], count: usize) -> Acted
     ensures { CarriesOut (on_fail d number) count out.old out.new result }
 {
     if !fail_counts(d, number) {
-        return Acted {
-            desk: d,
-            count: count,
-        };
+        return Acted { desk: d, count };
     }
     site_yields::yield_members(d, out, count)
 }

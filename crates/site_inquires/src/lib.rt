@@ -19,16 +19,10 @@ fn yield_or_remember(d: Desk, j: u64, n: u64, out: &mut [Row], count: usize) -> 
     let g = d.held[i];
     if g == 0 {
         let e = site_entries::remember(d, j, n);
-        return Acted {
-            desk: e,
-            count: count,
-        };
+        return Acted { desk: e, count };
     }
     if n != g {
-        return Acted {
-            desk: d,
-            count: count,
-        };
+        return Acted { desk: d, count };
     }
     let s = d.site;
     if rig_modes::has_failed(s) {
@@ -36,7 +30,7 @@ fn yield_or_remember(d: Desk, j: u64, n: u64, out: &mut [Row], count: usize) -> 
     }
     Acted {
         desk: site_entries::remember(d, j, n),
-        count: count,
+        count,
     }
 }
 
@@ -47,10 +41,7 @@ pub fn on_inquire(d: Desk, j: u64, n: u64, out: &mut [Row], count: usize) -> Act
 {
     let s = d.site;
     if !rig_modes::is_waiting(s) {
-        return Acted {
-            desk: d,
-            count: count,
-        };
+        return Acted { desk: d, count };
     }
     yield_or_remember(d, j, n, out, count)
 }

@@ -18,23 +18,17 @@ fn enter_or_yield(d: Desk, j: u64, out: &mut [Row], count: usize) -> Acted
     if site_held::all_held(d) {
         return Acted {
             desk: site_entries::enter(d),
-            count: count,
+            count,
         };
     }
     let s = d.site;
     if !rig_modes::has_failed(s) {
-        return Acted {
-            desk: d,
-            count: count,
-        };
+        return Acted { desk: d, count };
     }
     let i = (j - 1) as usize;
     let q = d.inquired[i];
     if q == 0 {
-        return Acted {
-            desk: d,
-            count: count,
-        };
+        return Acted { desk: d, count };
     }
     site_yields::yield_member(d, j, out, count)
 }
@@ -46,24 +40,15 @@ pub fn on_reply(d: Desk, j: u64, n: u64, out: &mut [Row], count: usize) -> Acted
 {
     let s = d.site;
     if !rig_modes::is_waiting(s) {
-        return Acted {
-            desk: d,
-            count: count,
-        };
+        return Acted { desk: d, count };
     }
     if !rig_reads::is_member(d.members, j) {
-        return Acted {
-            desk: d,
-            count: count,
-        };
+        return Acted { desk: d, count };
     }
     let i = (j - 1) as usize;
     let g = d.held[i];
     if g != 0 {
-        return Acted {
-            desk: d,
-            count: count,
-        };
+        return Acted { desk: d, count };
     }
     enter_or_yield(site_entries::take(d, j, n), j, out, count)
 }

@@ -19,13 +19,7 @@ pub fn on_transfer(d: Desk, j: u64, x: u64, n: u64, out: &mut [Row], count: usiz
     if n == g {
         let mut e = d;
         e.heir[i] = x;
-        return Acted {
-            desk: e,
-            count: count,
-        };
+        return Acted { desk: e, count };
     }
-    Acted {
-        desk: d,
-        count: count,
-    }
+    Acted { desk: d, count }
 }

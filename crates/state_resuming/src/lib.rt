@@ -38,10 +38,7 @@ pub fn resume(text: &[u8]) -> Resumption
     }
     let tested = !all_granted(rig);
     let playing = going_on(rig, &tables, &list, read.count, tested);
-    Resumption {
-        code: 0,
-        playing: playing,
-    }
+    Resumption { code: 0, playing }
 }
 
 // Whether every arbiter that has a holder has granted.
