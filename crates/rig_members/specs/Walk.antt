@@ -1,5 +1,5 @@
 -- Request 2.4: a walk of a set's members, "from one member to the next".
-use Rattle.std.specs.Prelude.{ℕ, zero, suc, ◌-◌, ◌%◌, ◌^◌, ◌≤◌, cond, List, [], ◌∷◌, ◌++◌, ◌≡◌, eqb, take}
+use Rattle.std.specs.Prelude.{ℕ, zero, suc, Option, MatchOption, ◌<◌, ◌-◌, ◌%◌, ◌^◌, ◌≤◌, cond, List, [], ◌∷◌, ◌++◌, ◌≡◌, eqb, take}
 use Rattle.basics.specs.Helpers.{lowest}
 use Rattle.model.specs.Sets.{member}
 
@@ -28,6 +28,10 @@ members_up_to set (suc i) = members_up_to set i ++ cond (member set (suc i)) (su
 unfoldable pub visited : ℕ → ℕ → List ℕ
 visited zero set = []
 visited (suc turns) set = cond (eqb set 0) [] (lowest_member set ∷ visited turns (without_member set (lowest_member set)))
+
+-- One turn of a walk, where `left` reads what a walk has still to visit: none is left, or the lowest member that is left is visited
+abbrev pub VisitsLowest : {S : Type 0} → (S → ℕ) → S → Option ℕ → S → Type 0
+VisitsLowest left s turn t = MatchOption turn ((left s ≡ 0) × (left t ≡ 0)) (λ j. (0 < left s) × (j ≡ lowest_member (left s)) × (left t ≡ without_member (left s) j))
 
 -- "A walk takes at most one turn for each member and none for another site": a walk of the members among the sites 1 to n visits in its first so
 -- many turns the first so many of them, ascending, each once, and then none

@@ -2,8 +2,9 @@
 #![tactic(auto)]
 
 ghost use Rattle.std.specs.Prelude.{◌≡◌, true, ◌<◌};
+ghost use Rattle.std.specs.Iterator.{at_most};
 ghost use Rattle.model.specs.Sets.{member};
-ghost use Rattle.rig_members.specs.Walk.{word_bits, within, lowest_member, without_member, WalkVisits};
+ghost use Rattle.rig_members.specs.Walk.{word_bits, within, lowest_member, without_member, VisitsLowest, WalkVisits};
 
 // An inner call: where a walk of the members among the sites 1 to n begins.
 pub fn members_within(n: u64, set: u64) -> u64
@@ -27,6 +28,40 @@ pub fn without_member(set: u64, j: u64) -> u64
     ensures { result ≡ without_member set j }
 {
     set - (1 << (j - 1))
+}
+
+// The members of a set that a walk has still to visit.
+#[derive(Drop)]
+pub struct MemberWalk {
+    pub left: u64,
+}
+
+// An inner call: a walk of the members among the sites 1 to n, ascending.
+pub fn each_member(n: u64, set: u64) -> MemberWalk
+    requires { n < word_bits }
+    ensures { result.left ≡ within n set }
+{
+    MemberWalk {
+        left: members_within(n, set),
+    }
+}
+
+impl Iterator for MemberWalk {
+    type Item = u64;
+
+    ghost next_gives = { VisitsLowest (λ s. s.left) };
+
+    ghost remaining = { λ s. at_most s.left };
+
+    // The lowest member that is left.
+    fn next(&mut self) -> Option<u64> {
+        if self.left == 0 {
+            return None;
+        }
+        let j = lowest_member(self.left);
+        self.left = without_member(self.left, j);
+        Some(j)
+    }
 }
 
 // What holds of every set is the contract of a function, so that it is checked with the code and shows in the list of proved functions. It

@@ -8,7 +8,7 @@ ghost use Rattle.model.specs.Tables.{at};
 ghost use Rattle.model.specs.Site.{all_held};
 
 use rig::{Desk, Rig};
-use rig_members::{lowest_member, members_within, without_member};
+use rig_members::each_member;
 
 // One turn of `all_held`: whether j, a member of the set, is held.
 fn member_held(set: u64, held: &[u64; Rig::SITES], j: u64) -> bool
@@ -23,13 +23,10 @@ pub fn all_held(d: Desk) -> bool
     requires { d.size ≤ site_limit }
     ensures { result ≡ all_held d }
 {
-    let mut left = members_within(d.size, d.members);
-    while left != 0 {
-        let j = lowest_member(left);
+    for j in each_member(d.size, d.members) {
         if !member_held(d.members, &d.held, j) {
             return false;
         }
-        left = without_member(left, j);
     }
     true
 }
