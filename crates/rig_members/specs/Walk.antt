@@ -1,6 +1,6 @@
 -- Request 2.4: a walk of a set's members, "from one member to the next".
 use Rattle.std.specs.Prelude.{ℕ, zero, suc, Option, MatchOption, ◌<◌, ◌-◌, ◌%◌, ◌^◌, ◌≤◌, cond, List, [], ◌∷◌, ◌++◌, ◌≡◌, eqb, take}
-use Rattle.basics.specs.Helpers.{lowest}
+use Rattle.basics.specs.Helpers.{count, lowest}
 use Rattle.model.specs.Sets.{member}
 
 -- "A set is an unsigned 64-bit entry"
@@ -28,6 +28,10 @@ members_up_to set (suc i) = members_up_to set i ++ cond (member set (suc i)) (su
 unfoldable pub visited : ℕ → ℕ → List ℕ
 visited zero set = []
 visited (suc turns) set = cond (eqb set 0) [] (lowest_member set ∷ visited turns (without_member set (lowest_member set)))
+
+-- how many members a set has: a walk has at most one turn for each
+abbrev pub members_in : ℕ → ℕ
+members_in set = count (member set) word_bits
 
 -- One turn of a walk, where `left` reads what a walk has still to visit: none is left, or the lowest member that is left is visited
 abbrev pub VisitsLowest : {S : Type 0} → (S → ℕ) → S → Option ℕ → S → Type 0

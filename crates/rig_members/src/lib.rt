@@ -4,7 +4,7 @@
 ghost use Rattle.std.specs.Prelude.{◌≡◌, true, ◌<◌};
 ghost use Rattle.std.specs.Iterator.{at_most};
 ghost use Rattle.model.specs.Sets.{member};
-ghost use Rattle.rig_members.specs.Walk.{word_bits, within, lowest_member, without_member, VisitsLowest, WalkVisits};
+ghost use Rattle.rig_members.specs.Walk.{word_bits, within, lowest_member, without_member, members_in, VisitsLowest, WalkVisits};
 
 // An inner call: where a walk of the members among the sites 1 to n begins.
 pub fn members_within(n: u64, set: u64) -> u64
@@ -51,7 +51,7 @@ impl Iterator for MemberWalk {
 
     ghost next_gives = { VisitsLowest (λ s. s.left) };
 
-    ghost remaining = { λ s. at_most s.left };
+    ghost remaining = { λ s. at_most (members_in s.left) };
 
     // The lowest member that is left.
     fn next(&mut self) -> Option<u64> {
