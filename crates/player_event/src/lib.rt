@@ -47,33 +47,23 @@ pub fn play_event(
     requires { HoldsAt Events p tables.old list.old }
     ensures { Gives (on_event (before p tables list) (some e)) result tables list page }
 {
-    let rig = p.rig;
-    let r = next_state(p.tested, rig, tables, list, p.count, e);
+    let r = next_state(p.tested, p.rig, tables, list, p.count, e);
     let place = one_more(p.step);
-    let after = r.rig;
-    let n = step_line(
+    let printed = step_line(
         page,
         place,
         r.code,
-        inside(after),
-        waiting(after),
+        inside(r.rig),
+        waiting(r.rig),
         r.count as u64,
     );
-    let read = one_more(p.line);
-    let sets = p.sets;
-    let next = Player {
+    let player = Player {
         stage: Stage::Events,
-        line: read,
+        line: one_more(p.line),
         step: place,
-        size: p.size,
-        given: p.given,
-        sets,
-        rig: after,
+        rig: r.rig,
         count: r.count,
-        tested: p.tested,
+        ..p
     };
-    Said {
-        player: next,
-        printed: n,
-    }
+    Said { player, printed }
 }

@@ -32,10 +32,9 @@ pub struct Stretch {
 fn same_kind(a: Site, b: Site) -> bool
     ensures { result ≡ same_kind a.mode b.mode }
 {
-    let m = a.mode;
-    match m {
+    match a.mode {
         Mode::Rest => is_resting(b),
-        Mode::Waiting { seq: _, failed: _ } => is_waiting(b),
+        Mode::Waiting { .. } => is_waiting(b),
         Mode::Inside => is_inside(b),
     }
 }
@@ -62,17 +61,13 @@ fn print_step(
 fn player_at(p: Player, line: u64, step: u64, rig: Rig, count: usize) -> Player
     ensures { result ≡ player_at p line step rig count }
 {
-    let sets = p.sets;
     Player {
         stage: Stage::Events,
         line,
         step,
-        size: p.size,
-        given: p.given,
-        sets,
         rig,
         count,
-        tested: p.tested,
+        ..p
     }
 }
 
@@ -83,11 +78,9 @@ fn stop_here(p: Player, out: &mut [u8], at: usize, from: usize) -> Stretch
 {
     let mut page = [0u8; PAGE_LENGTH];
     let said = stop(p, &mut page, 11, one_more(p.line));
-    let n = said.printed;
-    let to = put_word(out, at, &page[..n]);
-    let player = said.player;
+    let to = put_word(out, at, &page[..said.printed]);
     Stretch {
-        player,
+        player: said.player,
         from,
         at: to,
     }
@@ -118,8 +111,7 @@ pub fn play_events(
     let mut read = from;
     let mut to = at;
     while PAGE_LENGTH <= out.len() - to {
-        let next = next_line(text, read);
-        match next {
+        match next_line(text, read) {
             Next::Nothing => break,
             Next::Other(end) => return stop_here(
                 player_at(p, line, step, rig, count),
@@ -143,13 +135,11 @@ pub fn play_events(
                     &mut sent,
                     e,
                 );
-                let site_after = done.site;
-                rig.sites[i] = site_after;
-                let arbiter_after = done.arbiter;
-                rig.arbiters[i] = arbiter_after;
+                rig.sites[i] = done.site;
+                rig.arbiters[i] = done.arbiter;
                 rig.accepted = counted_on(rig.accepted, done.code);
                 count = done.count;
-                if !same_kind(site, site_after) {
+                if !same_kind(site, done.site) {
                     now_inside = inside(rig);
                     now_waiting = waiting(rig);
                 }

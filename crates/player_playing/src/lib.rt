@@ -29,12 +29,16 @@ pub fn part(s: Playing, given: &[u8], out: &mut [u8]) -> Played
 {
     let mut tables = tables_of(s);
     let mut list = list_of(s);
-    let player = player_of(s);
-    let line = line_of(s);
-    let r = read_part(player, &mut tables, &mut list, line, held_of(s), given, out);
-    let next = r.player;
-    let cut = r.line;
-    let playing = state_of(next, tables, list, cut, r.held);
+    let r = read_part(
+        player_of(s),
+        &mut tables,
+        &mut list,
+        line_of(s),
+        held_of(s),
+        given,
+        out,
+    );
+    let playing = state_of(r.player, tables, list, r.line, r.held);
     Played {
         playing,
         taken: r.from,
@@ -46,16 +50,14 @@ pub fn part(s: Playing, given: &[u8], out: &mut [u8]) -> Played
 fn at_most_room(held: usize) -> usize
     ensures { result ≡ min held line_room }
 {
-    if held < LINE_ROOM { held } else { LINE_ROOM }
+    held.min(LINE_ROOM)
 }
 
 // The end of the input; answers how many bytes of the page are to be written out.
 pub fn finish(s: Playing, page: &mut Page) -> usize
     ensures { Printed (on_end (known s) (cut_line s)) page.old page.new result }
 {
-    let player = player_of(s);
     let line = line_of(s);
-    let kept = held_of(s);
-    let held = at_most_room(kept);
-    player_lines::finish(player, page, &line[..held])
+    let held = at_most_room(held_of(s));
+    player_lines::finish(player_of(s), page, &line[..held])
 }

@@ -38,8 +38,7 @@ fn play_on(
     requires { PlayerFits p tables.old list.old × (from ≤ length given.now) × (at ≤ length out.old) }
     ensures { LeavesOn p tables list given.now from out at result }
 {
-    let stage = p.stage;
-    match stage {
+    match p.stage {
         Stage::Events => if p.tested {
             Stretch {
                 player: p,

@@ -128,11 +128,8 @@ pub fn going_on(rig: Rig, tables: &Tables, list: &Rows, count: usize, tested: bo
 pub fn is_over(s: Playing) -> bool
     ensures { result ≡ over_at s.player.stage }
 {
-    let player = s.player;
-    let stage = player.stage;
-    match stage {
-        Stage::Size => false,
-        Stage::Sets => false,
+    match s.player.stage {
+        Stage::Size | Stage::Sets => false,
         Stage::Events => false,
         Stage::Over => true,
     }

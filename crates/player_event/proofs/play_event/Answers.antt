@@ -8,4 +8,4 @@ next_state-r-requires c = c.requires
 pub returns : goal.returns
 returns c =
     let a = c.args in
-    plays a.p a.e a.tables.now a.list.now c.next_state-r.result _ _ c.step_line-n.result c.one_more-read.result c.one_more-place.result c.inside.result c.waiting.result c.requires c.next_state-r.ensures.0 c.next_state-r.ensures.1 c.one_more-read.ensures c.one_more-place.ensures c.inside.ensures c.waiting.ensures c.step_line-n.ensures
+    plays a.p a.e a.tables.now a.list.now c.next_state-r.result _ _ c.step_line-printed.result c.one_more.result c.one_more-place.result c.inside.result c.waiting.result c.requires c.next_state-r.ensures.0 c.next_state-r.ensures.1 c.one_more.ensures c.one_more-place.ensures c.inside.ensures c.waiting.ensures c.step_line-printed.ensures

@@ -18,7 +18,7 @@ use Rattle.player_events.proofs.play_events.Goals.{After-place_of-i, Joined-not-
 
 -- the line that is found, and the index of its event's site
 found : (c : After-place_of-i) → Finds c.args.text.now c.loop-out.read (EventTo c.in-Event.e c.in-Event.end)
-found c = rw c.in-Event.is at c.next_line-next.ensures
+found c = rw c.in-Event.is at c.next_line.ensures
 
 place : (c : After-place_of-i) → c.place_of-i.result ≡ place_of c.loop-out.rig.size (actor c.in-Event.e)
 place c = rw c.actor.ensures at c.place_of-i.ensures.0
@@ -48,12 +48,12 @@ loop-out-init c = let p = c.requires in begins p.0 p.1 p.2 p.3 p.4 c.inside-now_
 
 pub overflow_add-end : goal.overflow_add-end
 overflow_add-end c =
-    let f = rw c.in-Other.is at c.next_line-next.ensures in
+    let f = rw c.in-Other.is at c.next_line.ensures in
     record { fits = next_fits f.0 c.well_formed.1.1.1.0.0 }
 
 pub returns-in-Other : goal.returns-in-Other
 returns-in-Other c =
-    let f = rw c.in-Other.is at c.next_line-next.ensures in
+    let f = rw c.in-Other.is at c.next_line.ensures in
     turn-stops c.loop-out.invariant f.0 f.1 c.stop_here.result (rw c.player_at.ensures at c.stop_here.ensures)
 
 pub place_of-i-requires : goal.place_of-i-requires
@@ -97,5 +97,5 @@ returns c =
     turn-ends go c.player_at-2.result c.player_at-2.ensures (
     elim c.loop-out-test.branch [
       | else-loop-out-test w ↦ inr (inr (turn-full go w.loop-out-test.false))
-      | then-loop-out-test+in-Nothing w ↦ inl (rw w.in-Nothing.is at w.next_line-next.ensures)
+      | then-loop-out-test+in-Nothing w ↦ inl (rw w.in-Nothing.is at w.next_line.ensures)
     ])

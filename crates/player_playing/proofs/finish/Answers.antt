@@ -26,7 +26,7 @@ kept s e =
 cut : (c : After-at_most_room-held) → take c.at_most_room-held.result c.line_of-line.result ≡ cut_line c.args.s
 cut c =
     let long = sym (ap (λ (xs : List ℕ). length xs) c.line_of-line.ensures) ∙ c.line_of-line.type_inv.1.0.1 in
-    rw (c.at_most_room-held.ensures ∙ ap (λ (n : ℕ). min n line_room) c.held_of-kept.ensures, c.line_of-line.ensures) (kept c.args.s long)
+    rw (c.at_most_room-held.ensures ∙ ap (λ (n : ℕ). min n line_room) c.held_of.ensures, c.line_of-line.ensures) (kept c.args.s long)
 
 pub slice_bounds-line-end : goal.slice_bounds-line-end
 slice_bounds-line-end c = omega (arith, c.at_most_room-held.ensures, c.line_of-line.type_inv.1.0.1)
@@ -37,4 +37,4 @@ slice_bounds-finish-end c = sym (length-take-le _ c.line_of-line.result (omega (
 pub returns : goal.returns
 returns c =
     let s = c.args.s in
-    rw (cut (goal.at.returns c).After-at_most_room-held, c.player_of-player.ensures) at (c.finish.ensures (stored s.player.rig s.tables s.list s.player.count))
+    rw (cut (goal.at.returns c).After-at_most_room-held, c.player_of.ensures) at (c.finish.ensures (stored s.player.rig s.tables s.list s.player.count))
