@@ -1,18 +1,13 @@
 -- Closing a gap: the k rows behind place p stand one place forward.
-use Prim.Native.Nat.{ℕ, zero, suc, ◌+◌, ◌-◌, ◌≤◌, ◌<◌}
+use Prim.Native.Nat.{ℕ, suc, ◌+◌, ◌-◌, ◌≤◌, ◌<◌}
 use mathlib.Core.Path.{◌≡◌, sym, ap, ◌∙◌}
-use mathlib.Core.List.{List, [], ◌∷◌, ◌++◌}
+use mathlib.Core.List.{List, ◌∷◌, ◌++◌}
 use native.Mathlib.Omega.{arith}
-use native.Mathlib.Nat.{zero-add, suc-add}
 use lib.ListN.{length, take, drop, set, length-drop}
-use lib.Seq.{take-nil, take-take, take-paste, drop-paste, drop-drop, set_split, length-paste, paste}
+use Rattle.std.proofs.lemmas.List.{drop-take}
+use lib.Seq.{take-take, take-paste, drop-paste, drop-drop, set_split, length-paste, paste}
 
 module _ {A : Type 0} where
-  drop-take : (n k : ℕ) (l : List A) → drop n (take (n + k) l) ≡ take k (drop n l)
-  drop-take zero k l = rw zero-add
-  drop-take (suc n) k [] = rw suc-add (sym (take-nil k))
-  drop-take (suc n) k (x ∷ xs) = rw suc-add (drop-take n k xs)
-
   abbrev pub gap : List A → ℕ → ℕ → List A
   gap l p k = paste l p (drop (suc p) l) k
 
