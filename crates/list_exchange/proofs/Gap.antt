@@ -1,36 +1,15 @@
--- Closing a gap: after k turns the k rows behind place p stand one place forward.
-use Prim.Native.Nat.{ℕ, zero, suc, ◌+◌, ◌-◌, ◌≤◌, ◌<◌}
+-- Closing a gap: the k rows behind place p stand one place forward.
+use Prim.Native.Nat.{ℕ, suc, ◌+◌, ◌-◌, ◌≤◌, ◌<◌}
 use mathlib.Core.Path.{◌≡◌, sym, ap, ◌∙◌}
-use mathlib.Core.List.{List, [], ◌∷◌, ◌++◌}
+use mathlib.Core.List.{List, ◌∷◌, ◌++◌}
 use native.Mathlib.Omega.{arith}
-use native.Mathlib.Numerals.{add-one}
-use native.Mathlib.Nat.{zero-add, suc-add}
-use lib.ListN.{length, get_or, take, drop, set, length-drop}
-use lib.Seq.{take-nil, take-take, take-paste, drop-paste, drop-drop, set_split, length-paste, paste, paste-suc, length_paste_head, get_or-append-add, get_or-drop}
+use lib.ListN.{length, take, drop, set, length-drop}
+use Rattle.std.proofs.lemmas.List.{drop-take}
+use lib.Seq.{take-take, take-paste, drop-paste, drop-drop, set_split, length-paste, paste}
 
 module _ {A : Type 0} where
-  drop-take : (n k : ℕ) (l : List A) → drop n (take (n + k) l) ≡ take k (drop n l)
-  drop-take zero k l = rw zero-add
-  drop-take (suc n) k [] = rw suc-add (sym (take-nil k))
-  drop-take (suc n) k (x ∷ xs) = rw suc-add (drop-take n k xs)
-
   abbrev pub gap : List A → ℕ → ℕ → List A
   gap l p k = paste l p (drop (suc p) l) k
-
-  -- the row that the next turn reads is still the entry's
-  gap-next : (l : List A) (p k : ℕ) (d : A) → p + k + 1 < length l → get_or (gap l p k) (p + k + 1) d ≡ get_or (drop (suc p) l) k d
-  gap-next l p k d h =
-      let e : length (take p l ++ take k (drop (suc p) l)) ≡ p + k = length_paste_head l p (drop (suc p) l) k (omega arith) (simp length-drop (omega arith)) in
-      let a : p + k + 1 ≡ length (take p l ++ take k (drop (suc p) l)) + 1 = omega arith in
-      let b : p + k + 1 ≡ suc p + k = omega arith in
-      ap (λ (n : ℕ). get_or (gap l p k) n d) a
-      ∙ get_or-append-add (take p l ++ take k (drop (suc p) l)) (drop (p + k) l) 1 d
-      ∙ get_or-drop (p + k) l 1 d
-      ∙ ap (λ (n : ℕ). get_or l n d) b
-      ∙ sym (get_or-drop (suc p) l k d)
-
-  pub gap_step : (l m : List A) (p k : ℕ) (d : A) → p + k + 1 < length l → m ≡ gap l p k → set m (p + k) (get_or m (p + k + 1) d) ≡ gap l p (k + 1)
-  gap_step l m p k d h e = rw e (rw (gap-next l p k d h) (paste-suc l p (drop (suc p) l) k d (omega arith) (simp length-drop (omega arith)) ∙ rw add-one))
 
   gap-front : (l : List A) (p k : ℕ) → p + k < length l → take (p + k) (gap l p k) ≡ take p (take (suc p + k) l) ++ drop (suc p) (take (suc p + k) l)
   gap-front l p k h =

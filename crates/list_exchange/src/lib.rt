@@ -10,23 +10,12 @@ ghost use Rattle.list_exchange.specs.Exchange.{taken_out, Exchanged};
 use list_rows::{Row, Rows};
 use rig::Message;
 
-// Each of the rows behind `place`, to the last used one, is copied one place forward.
-fn close_gap(list: &mut [Row], count: usize, place: usize)
-    requires { (place < count) × (count ≤ length list.old) }
-    ensures { list.new ≡ paste list.old place (drop (suc place) list.old) (count - suc place) }
-{
-    for i in place..count - 1 {
-        let m = list[i + 1];
-        list[i] = m;
-    }
-}
-
-// The message at `place` is taken off, and the last used row becomes zeros.
+// The message at `place` is taken off: the rows behind it are copied one place forward, and the last used row becomes zeros.
 fn take_off(list: &mut [Row], count: usize, place: usize) -> usize
     requires { (place < count) × (count ≤ length list.old) }
     ensures { (result + 1 ≡ count) × (list.new ≡ taken_out count place list.old) }
 {
-    close_gap(list, count, place);
+    list.copy_within(place + 1..count, place);
     list[count - 1] = [0; Message::FIELDS];
     count - 1
 }
@@ -36,10 +25,7 @@ fn append_all(list: &mut [Row], count: usize, sent: &[Row], m: usize) -> usize
     requires { (count + m ≤ length list.old) × (m ≤ length sent.now) }
     ensures { (result ≡ count + m) × (list.new ≡ paste list.old count sent.now m) }
 {
-    for i in 0..m {
-        let s = sent[i];
-        list[count + i] = s;
-    }
+    list[count..count + m].copy_from_slice(&sent[..m]);
     count + m
 }
 

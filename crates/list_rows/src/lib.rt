@@ -1,7 +1,7 @@
 // A message in plain numbers: a row is kind, from, to, about, number.
 #![tactic(auto)]
 
-ghost use Rattle.std.specs.Prelude.{◌≡◌, [], ◌∷◌, ◌<◌, length};
+ghost use Rattle.std.specs.Prelude.{◌≡◌, [], ◌∷◌, ◌<◌, ◌+◌, length, set};
 ghost use Rattle.list_rows.specs.Rows.{row_of, message_of, Appends};
 
 use rig::{Message, Rig};
@@ -32,11 +32,19 @@ pub fn message(r: Row) -> Message
     }
 }
 
+// An inner call: one entry more of a list of any kind, behind the first `count`.
+pub fn put<T: Copy>(list: &mut [T], count: usize, x: T) -> usize
+    requires { count < length list.old }
+    ensures { (result ≡ count + 1) × (list.new ≡ set list.old count x) }
+{
+    list[count] = x;
+    count + 1
+}
+
 // An inner call: one message more, behind the first `count`.
 pub fn append(list: &mut [Row], count: usize, m: Message) -> usize
     requires { count < length list.old }
     ensures { Appends (m ∷ []) count list.old list.new result }
 {
-    list[count] = row(m);
-    count + 1
+    put(list, count, row(m))
 }

@@ -1,16 +1,21 @@
 -- What a search finds is the message that the model finds, and what is left without its row is what the model leaves.
 use Prim.Native.Nat.{ℕ, suc, ◌+◌, ◌<◌}
 use mathlib.Core.Path.{◌≡◌, refl, ap, ◌∙◌}
+use mathlib.Core.Bool.{Bool}
 use mathlib.Core.List.{List, [], ◌∷◌, map}
 use mathlib.Core.Option.{none, some}
+use native.Mathlib.Numerals.{add-one}
 use native.Mathlib.Omega.{arith}
 use lib.ListN.{length, get_or, take, length-take}
 use lib.Seq.{get_or-take}
+use Rattle.std.specs.Prelude.{Option}
+use Rattle.std.specs.List.{position, position_from}
+use Rattle.std.proofs.lemmas.Iterator.Adapters.{position_from-zero}
 use Rattle.basics.specs.Helpers.{first, without_first}
 use Rattle.basics.proofs.Basics.{by_bool}
 use Rattle.model.specs.Deliver.{between}
 use Rattle.list_rows.specs.Rows.{message_of, without}
-use Rattle.list_search.specs.Places.{found_from, found_in}
+use Rattle.list_search.specs.Places.{found_of, place_from, found_from, found_in}
 use Rattle.list_search.specs.declared.Found.TheVariants.{At, Nowhere}
 
 module _ (a b : ℕ) where
@@ -70,3 +75,15 @@ module _ (a b : ℕ) where
   pub found-stays : (n : ℕ) (rows : List (List ℕ)) (i : ℕ) → found_in a b (take n rows) ≡ At i
       → map message_of (without i (take n rows)) ≡ without_first (between a b) (map message_of (take n rows))
   found-stays n rows i h = (found-stands (take n rows) i h).2
+
+-- the place that `position` finds
+module _ {A : Type 0} (test : A → Bool) where
+  found-position : (k : ℕ) (xs : List A) → found_of (position_from test k xs) ≡ place_from k test xs
+  found-position k [] = refl
+  found-position k (x ∷ xs) =
+      by_bool (test x)
+      (λ e. rw e)
+      (λ e. rw (e, add-one) (found-position (suc k) xs))
+
+  pub found_first : (xs : List A) (place : Option ℕ) → place ≡ position test xs → found_of place ≡ place_from 0 test xs
+  found_first xs place e = rw e (ap found_of (position_from-zero test xs) ∙ found-position 0 xs)

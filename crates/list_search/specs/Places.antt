@@ -1,5 +1,5 @@
 -- Where a message stands in a list.
-use Rattle.std.specs.Prelude.{ℕ, suc, Bool, cond, List, [], ◌∷◌}
+use Rattle.std.specs.Prelude.{ℕ, suc, Bool, cond, List, [], ◌∷◌, Option, Some, None}
 use Rattle.model.specs.Deliver.{between}
 use Rattle.list_rows.specs.Rows.{message_of}
 use Rattle.list_search.specs.declared.Found.{Found}
@@ -16,3 +16,8 @@ found_from k a b rows = place_from k (λ (r : List ℕ). between a b (message_of
 
 abbrev pub found_in : ℕ → ℕ → List (List ℕ) → Found
 found_in a b rows = found_from 0 a b rows
+
+-- an index that may be found, as a place
+abbrev pub found_of : Option ℕ → Found
+found_of (Some i) = At i
+found_of None = Nowhere

@@ -1,9 +1,11 @@
-// The search for the first message from one site to another, in rows.
+// The search for the first message from one site to another.
 #![tactic(auto)]
 
-ghost use Rattle.std.specs.Prelude.{◌≡◌, take};
+ghost use Rattle.std.specs.Prelude.{◌≡◌, position, take};
+ghost use Rattle.rig.specs.declared.Message.{Message};
 ghost use Rattle.model.specs.Deliver.{between};
-ghost use Rattle.list_search.specs.Places.{found_in};
+ghost use Rattle.list_rows.specs.Rows.{message_of};
+ghost use Rattle.list_search.specs.Places.{found_of, found_in, place_from};
 
 use list_rows::{Row, Rows, message};
 use rig::Message;
@@ -16,37 +18,57 @@ pub enum Found {
 }
 
 // Whether a message is from a to b.
+#[tactic(auto, unfolding(model::specs::Deliver::between))]
 pub fn is_between(m: Message, a: u64, b: u64) -> bool
     ensures { result ≡ between a b m }
 {
-    if a == m.from { b == m.to } else { false }
+    a == m.from && b == m.to
 }
 
-// The place of the first row from a to b.
-fn search(list: &[Row], a: u64, b: u64) -> Found
-    ensures { result ≡ found_in a b list.now }
-{
-    for i in 0..list.len() {
-        let r = list[i];
-        if is_between(message(r), a, b) {
-            return Found::At(i);
-        }
-    }
-    Found::Nowhere
+// An entry of a list of messages: a row, or the message itself.
+pub trait Entry {
+    ghost message_in: { Self → Message };
+
+    // Whether its message is from a to b.
+    fn is_sent(&self, a: u64, b: u64) -> bool
+        ensures { result ≡ between a b (message_in self.now) };
 }
 
-fn first_of(list: &[Row], count: usize, a: u64, b: u64) -> Found
-    ensures { result ≡ found_in a b (take count list.now) }
-{
-    if count < list.len() {
-        return search(&list[..count], a, b);
+impl Entry for Row {
+    ghost message_in = { message_of };
+
+    fn is_sent(&self, a: u64, b: u64) -> bool {
+        is_between(message(*self), a, b)
     }
-    search(list, a, b)
+}
+
+impl Entry for Message {
+    ghost message_in = { λ m. m };
+
+    fn is_sent(&self, a: u64, b: u64) -> bool {
+        is_between(*self, a, b)
+    }
+}
+
+fn place<E: Entry>(list: &[E], count: usize, a: u64, b: u64) -> Option<usize>
+    ensures { result ≡ position (λ e. between a b (E.message_in e)) (take count list.now) }
+{
+    list.iter().take(count).position(|e| e.is_sent(a, b))
+}
+
+// An inner call: the place of the first entry from a to b, of the first `count`.
+pub fn search<E: Entry>(list: &[E], count: usize, a: u64, b: u64) -> Found
+    ensures { result ≡ place_from 0 (λ e. between a b (E.message_in e)) (take count list.now) }
+{
+    match place(list, count, a, b) {
+        Some(i) => Found::At(i),
+        None => Found::Nowhere,
+    }
 }
 
 // The place of the first message from a to b, of the first `count`.
 pub fn first(list: &Rows, count: usize, a: u64, b: u64) -> Found
     ensures { result ≡ found_in a b (take count list.now) }
 {
-    first_of(list, count, a, b)
+    search(list, count, a, b)
 }

@@ -10,47 +10,30 @@ use rig::{Mode, Site};
 pub fn is_resting(s: Site) -> bool
     ensures { result ≡ is_resting s.mode }
 {
-    let m = s.mode;
-    match m {
-        Mode::Rest => true,
-        Mode::Waiting { seq: _, failed: _ } => false,
-        Mode::Inside => false,
-    }
+    matches!(s.mode, Mode::Rest)
 }
 
 // Whether the site waits.
 pub fn is_waiting(s: Site) -> bool
     ensures { result ≡ is_waiting s.mode }
 {
-    let m = s.mode;
-    match m {
-        Mode::Rest => false,
-        Mode::Waiting { seq: _, failed: _ } => true,
-        Mode::Inside => false,
-    }
+    matches!(s.mode, Mode::Waiting { .. })
 }
 
 // Whether the site is inside.
 pub fn is_inside(s: Site) -> bool
     ensures { result ≡ is_inside s.mode }
 {
-    let m = s.mode;
-    match m {
-        Mode::Rest => false,
-        Mode::Waiting { seq: _, failed: _ } => false,
-        Mode::Inside => true,
-    }
+    matches!(s.mode, Mode::Inside)
 }
 
 // The sequence number of its ask; 0 where it does not wait.
 pub fn seq_in(s: Site) -> u64
     ensures { result ≡ seq_in s.mode }
 {
-    let m = s.mode;
-    match m {
-        Mode::Rest => 0,
-        Mode::Waiting { seq, failed: _ } => seq,
-        Mode::Inside => 0,
+    match s.mode {
+        Mode::Waiting { seq, .. } => seq,
+        _ => 0,
     }
 }
 
@@ -58,10 +41,8 @@ pub fn seq_in(s: Site) -> u64
 pub fn has_failed(s: Site) -> bool
     ensures { result ≡ failed_in s.mode }
 {
-    let m = s.mode;
-    match m {
-        Mode::Rest => false,
-        Mode::Waiting { seq: _, failed } => failed,
-        Mode::Inside => false,
+    match s.mode {
+        Mode::Waiting { failed, .. } => failed,
+        _ => false,
     }
 }

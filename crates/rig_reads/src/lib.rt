@@ -10,26 +10,18 @@ ghost use Rattle.model.specs.Shape.{is_number, is_given};
 use rig::Rig;
 
 // Site j is a member of the set.
+#[tactic(auto, using(crate::proofs::Members::member_bits))]
 pub fn is_member(set: u64, j: u64) -> bool
     ensures { result ≡ member set j }
 {
-    if j == 0 {
-        return false;
-    }
-    if j > 64 {
-        return false;
-    }
-    (set >> (j - 1)) % 2 == 1
+    1 <= j && j <= 64 && (set >> (j - 1)) % 2 == 1
 }
 
 // What site k has in a list with an entry for each site, 0 outside it.
 pub fn entry_of(entries: &[u64], k: u64) -> u64
     ensures { result ≡ at 0 entries.now k }
 {
-    if k == 0 {
-        return 0;
-    }
-    if k > entries.len() as u64 {
+    if k == 0 || k > entries.len() as u64 {
         return 0;
     }
     entries[(k - 1) as usize]
@@ -46,10 +38,7 @@ pub fn tied(sets: &[u64; Rig::SITES], k: u64, j: u64) -> bool
 pub fn both_tied(sets: &[u64; Rig::SITES], k: u64, heir: u64, j: u64) -> bool
     ensures { result ≡ has_member sets.now k j && has_member sets.now heir j }
 {
-    if !tied(sets, k, j) {
-        return false;
-    }
-    tied(sets, heir, j)
+    tied(sets, k, j) && tied(sets, heir, j)
 }
 
 // One of the sites 1 to N.
@@ -60,6 +49,7 @@ pub fn is_site(size: u64, k: u64) -> bool
 }
 
 // "Clocks, sequence and grant numbers: 0 to 2,000,000."
+#[tactic(auto, unfolding(model::specs::Shape::is_number))]
 pub fn is_number(n: u64) -> bool
     ensures { result ≡ is_number n }
 {
@@ -67,6 +57,7 @@ pub fn is_number(n: u64) -> bool
 }
 
 // Such a number where there is one: at least 1.
+#[tactic(auto, unfolding(model::specs::Shape::is_given, model::specs::Shape::is_number))]
 pub fn is_given(n: u64) -> bool
     ensures { result ≡ is_given n }
 {

@@ -5,4 +5,4 @@ use Rattle.list_copy.proofs.Copies.{copied}
 use Rattle.list_copy.proofs.to_rows.Given as goal
 
 abbrev pub invariant-loop-i : goal.invariant-loop-i
-invariant-loop-i l = l.rows ≡ copied row_of l.fn.rows l.list l.i
+invariant-loop-i l = l.rows ≡ copied row_of l.fn.rows l.fn.list l.i

@@ -1,27 +1,15 @@
--- `append_all`: after i turns, i rows are put behind.
-use Prim.Native.Nat.{◌-◌}
-use mathlib.Core.Path.{◌≡◌, refl}
-use mathlib.Core.List.{[]}
+-- `append_all`: the first m rows of `sent`, put behind.
+use mathlib.Core.Path.{refl, ◌∙◌}
 use native.Mathlib.Omega.{arith}
-use native.Mathlib.Numerals.{add-one}
-use lib.ListN.{length-set}
-use lib.Seq.{paste-zero, paste-suc}
+use lib.ListN.{take}
+use lib.Seq.{length-take-le, take-take}
+use Rattle.std.proofs.lemmas.Slice.{put_mid-paste}
 use Rattle.list_exchange.proofs.append_all.Goals as goal
-
-pub loop-i-init : goal.loop-i-init
-loop-i-init c = (omega arith, refl, paste-zero c.args.list.now c.args.count c.args.sent.now)
-
-pub loop-i-preserved : goal.loop-i-preserved
-loop-i-preserved c =
-    let p = c in
-    let i = p.loop-i.invariant in
-    let a = p.args in
-    (omega arith, simp length-set i.1, rw (i.2, add-one) (paste-suc a.list.now a.count a.sent.now p.loop-i.i [] (omega arith) (omega arith)))
 
 pub returns : goal.returns
 returns c =
-    let p = c in
-    let i = p.loop-i.invariant in
-    let a = p.args in
-    let e : p.loop-i.i ≡ a.m = omega arith in
-    (refl, rw e at i.2)
+    let a = c.args in
+    let long = length-take-le a.m a.sent.now c.requires.1 in (
+      refl,
+      put_mid-paste a.count _ a.list.now _ (take a.m a.sent.now) a.m c.copy_from_slice.ensures.after (omega arith) (omega arith) ∙ rw (take-take a.m a.m a.sent.now (omega arith)),
+    )

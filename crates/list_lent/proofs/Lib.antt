@@ -1,2 +1,0 @@
--- Laws of the lists.
-pub mod Search
