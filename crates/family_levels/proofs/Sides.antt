@@ -5,6 +5,9 @@ use mathlib.Core.Bool.{Bool, true, false, ◌&&◌}
 use native.Mathlib.Nat.{mul-pos, add-mul, mul_comm, mul-le-mul, mul-le-mul_right, one-mul}
 use native.Mathlib.Omega.{arith}
 use lib.Dec.{leb}
+use Rattle.std.specs.List.{list_all}
+use mathlib.Core.List.{[], ◌∷◌}
+use Rattle.family_sets.specs.Meeting.{SiteTo}
 use borrow.Author.Tests.{leb-true, le-leb}
 use Rattle.rig.specs.Limits.{site_limit}
 use Rattle.basics.proofs.Basics.{by_bool, clash, and_split}
@@ -60,33 +63,40 @@ ProductsSmall a b c = (a * b ≤ site_limit * site_limit) × (a * b * c ≤ site
 
 -- a side that is not of 1 to the limit is not listed; of sides that are, the product decides
 module _ (a b c : ℕ) where
-  listed-sides : sides_listed a b c ≡ true → (in_range site_limit a ≡ true) × (in_range site_limit b ≡ true) × (in_range site_limit c ≡ true)
-  listed-sides h =
-      let s = sides a b c h in
+  abbrev pub in_limit : Bool
+  in_limit = list_all (in_range site_limit) (a ∷ b ∷ c ∷ [])
+
+  pub side-fails : in_limit ≡ false → false ≡ sides_listed a b c
+  side-fails h =
+      by_bool (sides_listed a b c)
+      (λ e.
+      let s = sides a b c e in
       let m = s.most in
       let p = mul-pos s.rows s.bays in
       let x = factor a b s.bays in
       let y = rw (mul_comm b a) at (factor b a s.rows) in
       let z = factor (a * b) c s.levels in
       let w = rw (mul_comm c (a * b)) at (factor c (a * b) p) in
-      (in-range site_limit a s.rows (omega arith), in-range site_limit b s.bays (omega arith), in-range site_limit c s.levels (omega arith))
+      clash in_limit (rw (in-range site_limit a s.rows (omega arith), in-range site_limit b s.bays (omega arith), in-range site_limit c s.levels (omega arith))) h)
+      (λ e. sym e)
 
-  unlisted : (t : Bool) → (sides_listed a b c ≡ true → t ≡ true) → t ≡ false → false ≡ sides_listed a b c
-  unlisted t f h = by_bool (sides_listed a b c) (λ e. clash t (f e) h) (λ e. sym e)
+  module _ (h : in_limit ≡ true) where
+    rows : SiteTo site_limit a
+    rows = within site_limit a (and_split (in_range site_limit a) _ h).0
 
-  pub rows-fail : in_range site_limit a ≡ false → false ≡ sides_listed a b c
-  rows-fail = unlisted _ (λ h. (listed-sides h).0)
+    others : in_range site_limit b && (in_range site_limit c && true) ≡ true
+    others = (and_split (in_range site_limit a) _ h).1
 
-  pub bays-fail : in_range site_limit b ≡ false → false ≡ sides_listed a b c
-  bays-fail = unlisted _ (λ h. (listed-sides h).1)
+    bays : SiteTo site_limit b
+    bays = within site_limit b (and_split (in_range site_limit b) _ others).0
 
-  pub levels-fail : in_range site_limit c ≡ false → false ≡ sides_listed a b c
-  levels-fail = unlisted _ (λ h. (listed-sides h).2)
+    levels : SiteTo site_limit c
+    levels = within site_limit c (and_split (in_range site_limit c) true (and_split (in_range site_limit b) _ others).1).0
 
-  pub product-decides : in_range site_limit a ≡ true → in_range site_limit b ≡ true → in_range site_limit c ≡ true → leb (a * b * c) site_limit ≡ sides_listed a b c
-  unfolding sides_listed
-  product-decides x y z = rw (le-leb 1 a (within site_limit a x).0, le-leb 1 b (within site_limit b y).0, le-leb 1 c (within site_limit c z).0)
+    pub product-decides : leb (a * b * c) site_limit ≡ sides_listed a b c
+    unfolding sides_listed
+    product-decides = rw (le-leb 1 a rows.0, le-leb 1 b bays.0, le-leb 1 c levels.0)
 
-  -- sides of 1 to the limit have small products
-  pub products : in_range site_limit a ≡ true → in_range site_limit b ≡ true → in_range site_limit c ≡ true → ProductsSmall a b c
-  products x y z = let p = mul-le-mul (within site_limit a x).1 (within site_limit b y).1 in (p, mul-le-mul p (within site_limit c z).1)
+    -- sides of 1 to the limit have small products
+    pub products : ProductsSmall a b c
+    products = let p = mul-le-mul rows.1 bays.1 in (p, mul-le-mul p levels.1)

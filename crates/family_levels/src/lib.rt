@@ -14,16 +14,8 @@ use rig_reads::is_site;
 pub fn sides_listed(a: u64, b: u64, c: u64) -> bool
     ensures { result ≡ sides_listed a b c }
 {
-    if !is_site(Rig::SITES as u64, a) {
-        return false;
-    }
-    if !is_site(Rig::SITES as u64, b) {
-        return false;
-    }
-    if !is_site(Rig::SITES as u64, c) {
-        return false;
-    }
-    a * b * c <= Rig::SITES as u64
+    let most = Rig::SITES as u64;
+    [a, b, c].iter().all(|&side| is_site(most, side)) && a * b * c <= most
 }
 
 // An inner call: entry k of site n, the a × b sites of its level, then the sites of its row and bay.

@@ -19,21 +19,16 @@ pub fn votes_listed(size: u64, votes: &[u64]) -> bool
     requires { size ≤ site_limit }
     ensures { result ≡ votes_listed size votes.now }
 {
-    if !none_above(size, votes) {
-        return false;
-    }
-    vote_sum(size, votes) != 0
+    none_above(size, votes) && vote_sum(size, votes) != 0
 }
 
 fn none_above(size: u64, votes: &[u64]) -> bool
     ensures { result ≡ none_above size votes.now }
 {
-    for i in 0..size {
-        if entry_of(votes, i + 1) > VOTE_MOST {
-            return false;
-        }
-    }
-    true
+    votes
+        .iter()
+        .take(size as usize)
+        .all(|&vote| vote <= VOTE_MOST)
 }
 
 // An inner call: the sum of the votes.
@@ -41,11 +36,7 @@ pub fn vote_sum(size: u64, votes: &[u64]) -> u64
     requires { VotesFit size votes.now }
     ensures { result ≡ vote_sum votes.now size }
 {
-    let mut sum = 0;
-    for i in 0..size {
-        sum = sum + entry_of(votes, i + 1);
-    }
-    sum
+    votes.iter().take(size as usize).sum()
 }
 
 // An inner call: the set of site n; 0 for a number that is no site.
@@ -106,10 +97,7 @@ fn site_after(size: u64, m: u64) -> u64
     requires { SiteTo size m × (size ≤ site_limit) }
     ensures { result ≡ site_after size m }
 {
-    if m == size {
-        return 1;
-    }
-    m + 1
+    if m == size { 1 } else { m + 1 }
 }
 
 // What holds for every N is the contract of functions, so that it is checked with the code and shows in the list of proved functions. Each answers 0.

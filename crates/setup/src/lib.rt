@@ -22,10 +22,9 @@ fn kept(size: u64, sets: &[u64]) -> [u64; Rig::SITES]
     requires { (size ≤ site_limit) × (length sets.now ≡ site_limit) }
     ensures { result ≡ kept_sets size sets.now }
 {
+    let n = size as usize;
     let mut out = [0; Rig::SITES];
-    for i in 0..size as usize {
-        out[i] = sets[i];
-    }
+    out[..n].copy_from_slice(&sets[..n]);
     out
 }
 

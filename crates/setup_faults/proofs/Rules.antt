@@ -1,21 +1,60 @@
 -- All sets keep a rule exactly where there is no first one that breaks it, and what that says of setup's codes. The line of sets that meet hangs on no
 -- entry past n.
-use Prim.Native.Nat.{ℕ, ◌+◌, ◌≤◌}
+use Prim.Native.Nat.{ℕ, zero, suc, ◌+◌, ◌≤◌, ◌<◌}
+use Rattle.std.proofs.Common.{Option, Some, None, MatchOption, option_map, is_some, unwrap_or}
+use native.Mathlib.Numerals.{add-one}
+use native.Mathlib.Omega.{arith}
+use Rattle.basics.specs.Helpers.{lowest}
 use mathlib.Core.Path.{◌≡◌, refl, sym, ap, ◌∙◌}
 use mathlib.Core.Logic.{◌≢◌}
-use mathlib.Core.Bool.{true, not, ◌&&◌, cond}
+use mathlib.Core.Bool.{Bool, true, false, not, ◌&&◌, cond}
 use mathlib.Core.List.{List}
 use lib.Dec.{eqb}
 use lib.ListN.{length}
-use borrow.Author.Tests.{eq-eqb, ne_eqb}
+use borrow.Author.Tests.{eqb-true, eq-eqb, ne_eqb}
 use Rattle.rig.specs.Limits.{site_limit}
-use Rattle.basics.proofs.Basics.{by_bool, and_split, all_both, all-lowest, lowest-same}
+use Rattle.basics.proofs.Basics.{by_bool, clash, and_split, all_both, all-lowest, lowest-same, lowest-none, lowest-found}
 use Rattle.model.specs.Setup.{all_name, all_meet, all_minimal, each_code, meeting_code, setup_code, kept_sets}
 use Rattle.model.proofs.Setup.{Accepted, named}
 use Rattle.model.proofs.Lawful.{kept-accepted, kept-unnested-at}
 use Rattle.setup_rules.specs.declared.Rule.TheVariants.{Names, Meets, Fits}
 use Rattle.setup_rules.specs.Rules.{keeps_rule}
-use Rattle.setup_faults.specs.Faults.{first_breaking, fault_line}
+use Rattle.setup_faults.specs.Faults.{first_breaking, site_found, fault_line}
+
+-- the first index that fails, as a search over 0 to n answers it
+abbrev pub FirstFails : (ℕ → Bool) → ℕ → Option ℕ → Type 0
+FirstFails p n r =
+    MatchOption r
+    ((k : ℕ) → 0 ≤ k → k < n → p (k + 1) ≡ true)
+    (λ i. (0 ≤ i) × (i < n) × (p (i + 1) ≡ false) × ((k : ℕ) → 0 ≤ k → k < i → p (k + 1) ≡ true))
+
+-- and the site that has it
+pub found_first : (p : ℕ → Bool) (n : ℕ) (r : Option ℕ) → FirstFails p n r → option_map (λ k. k + 1) r ≡ site_found (lowest (λ k. not (p k)) n)
+found_first p n None h = rw (lowest-none (λ k. not (p k)) n passes)
+  where
+    passes : (k : ℕ) → 1 ≤ k → k ≤ n → not (p k) ≡ false
+    passes zero a b = absurd (omega arith)
+    passes (suc i) a b = rw (rw add-one at (h i (omega arith) b))
+found_first p n (Some i) h =
+    let e = lowest-found (λ k. not (p k)) i n (lowest-none (λ k. not (p k)) i passes) (rw (rw add-one at (h.2))) h.1 in
+    rw (e, add-one, ne_eqb (suc i) 0 (λ z. omega arith))
+  where
+    passes : (k : ℕ) → 1 ≤ k → k ≤ i → not (p k) ≡ false
+    passes zero a b = absurd (omega arith)
+    passes (suc j) a b = rw (rw add-one at (h.3 j (omega arith) b))
+
+-- a site that is told, and none
+pub told-site : {r : Option ℕ} {k : ℕ} → r ≡ site_found k → is_some r ≡ true → k ≢ 0
+told-site {r} {k} e t z = clash (is_some r) t (rw (e, z))
+
+pub told-none : {r : Option ℕ} {k : ℕ} → r ≡ site_found k → is_some r ≡ false → k ≡ 0
+told-none {r} {k} e f = by_bool (eqb k 0) (λ t. eqb-true k 0 t) (λ u. clash (is_some r) (rw (e, u)) f)
+
+pub told-which : {s k : ℕ} → Some s ≡ site_found k → s ≡ k
+told-which {s} {k} e = by_bool (eqb k 0) (λ t. let f : Some s ≡ None = rw t at e in cc) (λ t. let f : Some s ≡ Some k = rw t at e in cc)
+
+pub told_or_0 : {r : Option ℕ} {k : ℕ} → r ≡ site_found k → unwrap_or r 0 ≡ k
+told_or_0 {r} {k} e = by_bool (eqb k 0) (λ t. rw (e, t) (sym (eqb-true k 0 t))) (λ t. rw (e, t))
 
 module _ (n : ℕ) (sets : List ℕ) where
   pub all-name : all_name n sets ≡ eqb (first_breaking Names n sets) 0

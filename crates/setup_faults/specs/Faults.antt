@@ -1,5 +1,5 @@
 -- Which set is at fault, and document 01, "The player": the line that a refused setup names.
-use Rattle.std.specs.Prelude.{ℕ, ◌+◌, not, cond, List}
+use Rattle.std.specs.Prelude.{ℕ, ◌+◌, not, cond, List, Option, Some, None, eqb}
 use Rattle.basics.specs.Helpers.{lowest}
 use Rattle.model.specs.Setup.{all_name, all_meet}
 use Rattle.setup_rules.specs.declared.Rule.{Rule}
@@ -10,6 +10,10 @@ use Rattle.setup_rules.specs.Rules.{keeps_rule}
 -- strictly contains an earlier one or is strictly contained in one"
 unfoldable pub first_breaking : Rule → ℕ → List ℕ → ℕ
 first_breaking rule n sets = lowest (λ k. not (keeps_rule rule n sets k)) n
+
+-- the site, as a search answers it: none for 0
+abbrev pub site_found : ℕ → Option ℕ
+site_found k = cond (eqb k 0) None (Some k)
 
 -- "2 first"; 17 "straight after 3"; the set of site k stands in line k + 1
 unfoldable pub fault_line : ℕ → List ℕ → ℕ

@@ -5,22 +5,19 @@ ghost use Rattle.std.specs.Prelude.{◌≡◌, ◌≤◌, length};
 ghost use Rattle.rig.specs.Limits.{site_limit};
 ghost use Rattle.model.specs.Setup.{each_code, meeting_code, setup_code};
 ghost use Rattle.setup_rules.specs.Rules.{MayCompare};
-ghost use Rattle.setup_faults.specs.Faults.{first_breaking, fault_line};
+ghost use Rattle.setup_faults.specs.Faults.{first_breaking, site_found, fault_line};
 
 use rig::Rig;
 use setup_rules::{Rule, keeps};
 
-// The first site whose set breaks the rule, 0 none.
-fn first_breaking(rule: Rule, size: u64, sets: &[u64]) -> u64
+// The first site whose set breaks the rule.
+fn first_breaking(rule: Rule, size: u64, sets: &[u64]) -> Option<u64>
     requires { (size ≤ site_limit) × (length sets.now ≡ site_limit) × MayCompare rule size sets.now }
-    ensures { result ≡ first_breaking rule size sets.now }
+    ensures { result ≡ site_found (first_breaking rule size sets.now) }
 {
-    for k in 0..size {
-        if !keeps(rule, size, sets, k) {
-            return k + 1;
-        }
-    }
-    0
+    (0..size)
+        .find(|&k| !keeps(rule, size, sets, k))
+        .map(|k| k + 1)
 }
 
 // The codes 13, 1 and 2: what is asked of N, and of each set by itself.
@@ -36,7 +33,7 @@ fn judge_each(size: u64, sets: &[u64]) -> u64
     if size > Rig::SITES as u64 {
         return 1;
     }
-    if first_breaking(Rule::Names, size, sets) != 0 {
+    if first_breaking(Rule::Names, size, sets).is_some() {
         return 2;
     }
     0
@@ -50,7 +47,7 @@ pub fn judge_meeting(size: u64, sets: &[u64]) -> u64
     if code != 0 {
         return code;
     }
-    if first_breaking(Rule::Meets, size, sets) != 0 {
+    if first_breaking(Rule::Meets, size, sets).is_some() {
         return 3;
     }
     0
@@ -64,11 +61,11 @@ pub fn judge(size: u64, sets: &[u64]) -> u64
     if code != 0 {
         return code;
     }
-    if first_breaking(Rule::Fits, size, sets) == 0 {
+    if first_breaking(Rule::Fits, size, sets).is_none() {
         return 0;
     }
     let apart = first_breaking(Rule::Meets, size, sets);
-    if apart != 0 { 3 } else { 17 }
+    if apart.is_some() { 3 } else { 17 }
 }
 
 // An inner call: the line of the player's text that holds the set for which setup answers 2, 3 or 17.
@@ -76,13 +73,11 @@ pub fn fault_line(size: u64, sets: &[u64]) -> u64
     requires { (size ≤ site_limit) × (length sets.now ≡ site_limit) }
     ensures { result ≡ fault_line size sets.now }
 {
-    let faulty = first_breaking(Rule::Names, size, sets);
-    if faulty != 0 {
+    if let Some(faulty) = first_breaking(Rule::Names, size, sets) {
         return faulty + 1;
     }
-    let missing = first_breaking(Rule::Meets, size, sets);
-    if missing != 0 {
+    if let Some(missing) = first_breaking(Rule::Meets, size, sets) {
         return missing + 1;
     }
-    first_breaking(Rule::Unnested, size, sets) + 1
+    first_breaking(Rule::Unnested, size, sets).unwrap_or(0) + 1
 }

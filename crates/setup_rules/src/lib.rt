@@ -22,28 +22,22 @@ fn names_sites(size: u64, set: u64) -> bool
     requires { size ≤ site_limit }
     ensures { result ≡ names size set }
 {
-    if set == 0 { false } else { set >> size == 0 }
+    set != 0 && set >> size == 0
 }
 
 // One of two sets strictly contains the other.
 fn are_nested(a: u64, b: u64) -> bool
     ensures { (n : ℕ) → a < 2 ^ n → b < 2 ^ n → result ≡ nested n a b }
 {
-    if a == b {
-        return false;
-    }
     let common = a & b;
-    common == a || common == b
+    a != b && (common == a || common == b)
 }
 
 // Two sets share a site, and neither strictly contains the other.
 fn fit(a: u64, b: u64) -> bool
     ensures { (n : ℕ) → a < 2 ^ n → b < 2 ^ n → result ≡ meet n a b && not (nested n a b) }
 {
-    if a & b == 0 {
-        return false;
-    }
-    !are_nested(a, b)
+    a & b != 0 && !are_nested(a, b)
 }
 
 // Two sets are as the rule asks.
@@ -64,12 +58,9 @@ fn earlier_keep(rule: Rule, size: u64, sets: &[u64], k: u64) -> bool
     ensures { result ≡ earlier_keep rule size sets.now (k + 1) }
 {
     let set = sets[k as usize];
-    for i in 0..k {
-        if !pair_keeps(rule, set, sets[i as usize]) {
-            return false;
-        }
-    }
-    true
+    sets[..k as usize]
+        .iter()
+        .all(|&earlier| pair_keeps(rule, set, earlier))
 }
 
 // An inner call: the set at index k keeps the rule. Sets are compared only where none is empty or names a site outside 1 to `size`.

@@ -1,24 +1,20 @@
--- `none_above`: none of the votes so far is above the most.
-use mathlib.Core.Path.{sym}
-use native.Mathlib.Nat.{le_antisymm}
-use native.Mathlib.Omega.{arith}
-use Rattle.family_votes.proofs.Listed.{none-begun, none_more, one-above}
+-- `none_above`: the first N votes are at most 100.
+use Rattle.std.proofs.Common.{rules}
+use Rattle.std.proofs.lemmas.Iterator.{YieldsList-from_slice, YieldsList-from_take}
+use Rattle.std.proofs.lemmas.Iterator.Search.{all_from_yields_List}
+use borrow.Author.Tests.{tests}
+use Rattle.std.specs.List.{list_all}
+use lib.Dec.{leb}
+use lib.ListN.{take}
+use mathlib.Core.Path.{◌≡◌, refl, ◌∙◌}
+use Rattle.family_votes.specs.Votes.{vote_limit, none_above}
+use Rattle.family_votes.proofs.Listed.{first_pass}
 use Rattle.family_votes.proofs.none_above.Goals as goal
 
-pub loop-i-init : goal.loop-i-init
-loop-i-init c = (omega arith, none-begun _)
-
-pub returns-then-entry_of-gt-VOTE_MOST : goal.returns-then-entry_of-gt-VOTE_MOST
-returns-then-entry_of-gt-VOTE_MOST c =
-    let w = c in
-    let a = w.args in
-    sym (one-above a.votes.now a.size w.loop-i.i (omega arith) (omega (arith, c.entry_of.ensures, c.if-entry_of-gt-VOTE_MOST.true)))
-
-pub loop-i-preserved : goal.loop-i-preserved
-loop-i-preserved c =
-    let w = c in
-    let a = w.args in
-    (omega arith, none_more a.votes.now w.loop-i.i w.loop-i.invariant.1 (omega (arith, c.entry_of.ensures, c.if-entry_of-gt-VOTE_MOST.false)))
-
 pub returns : goal.returns
-returns c = sym (rw (le_antisymm c.loop-i.invariant.0 c.loop-i-test.false) at c.loop-i.invariant.1)
+unfolding none_above
+returns c =
+    let a = c.args in
+    let told : c.all.result ≡ list_all (λ v. leb v vote_limit) (take a.size a.votes.now) =
+    all_from_yields_List (λ v. leb v vote_limit) _ _ _ c.all.ensures.ran (YieldsList-from_take a.size (YieldsList-from_slice a.votes.now cc) cc) (λ x b q k. search (rules, tests)) in
+    told ∙ first_pass a.votes.now (λ v. leb v vote_limit) refl a.size

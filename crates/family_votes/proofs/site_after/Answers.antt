@@ -7,6 +7,6 @@ pub returns-then-m-size : goal.returns-then-m-size
 unfolding site_after
 returns-then-m-size c = let a = c.args in rw (eq-eqb a.m a.size c.if-m-size.true)
 
-pub returns : goal.returns
+pub returns-else-m-size : goal.returns-else-m-size
 unfolding site_after
-returns c = let a = c.args in rw (ne_eqb a.m a.size c.if-m-size.false)
+returns-else-m-size c = let a = c.args in rw (ne_eqb a.m a.size c.if-m-size.false)

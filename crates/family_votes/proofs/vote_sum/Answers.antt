@@ -1,29 +1,25 @@
--- `vote_sum`: the sum of the votes so far.
-use Prim.Native.Nat.{◌+◌}
-use mathlib.Core.Path.{refl, ◌∙◌}
-use native.Mathlib.Nat.{le_antisymm}
-use native.Mathlib.Numerals.{add-one}
+-- `vote_sum`: the sum of the first N votes, at most 100 each.
+use Prim.Native.Nat.{◌<◌, ◌^◌}
+use Rattle.std.specs.List.{sum}
+use Rattle.std.proofs.lemmas.Iterator.{YieldsList-from_slice, YieldsList-from_take}
+use Rattle.std.proofs.lemmas.Iterator.Consumers.{fits_from_yields_list, sum_from_yields_List}
+use lib.ListN.{take}
+use mathlib.Core.Path.{◌≡◌, ◌∙◌}
 use native.Mathlib.Omega.{arith}
-use Rattle.family_votes.specs.Votes.{vote_sum}
-use Rattle.family_votes.proofs.Listed.{vote-most, sum-most}
+use Rattle.family_votes.proofs.Listed.{first_sum, sum-most}
 use Rattle.family_votes.proofs.vote_sum.Goals as goal
 
-pub loop-i-init : goal.loop-i-init
-unfolding vote_sum
-loop-i-init c = (omega arith, refl)
-
-pub overflow_add-sum : goal.overflow_add-sum
-overflow_add-sum c =
-    let w = c in
-    let a = w in
-    let votes = a.args.votes.now in
-    let s = sum-most votes a.args.size a.requires.1 w.loop-i.i w.loop-i.invariant.0 in
-    let v = vote-most votes a.args.size a.requires.1 (w.loop-i.i + 1) (omega arith, omega arith) in
-    omega (arith, a.requires.0, w.loop-i.invariant.1, c.entry_of-sum.ensures)
-
-pub loop-i-preserved : goal.loop-i-preserved
-unfolding vote_sum
-loop-i-preserved c = (omega arith, rw (c.loop-i.invariant.1, c.entry_of-sum.ensures, add-one))
+pub sum-requires-clause-fits : goal.sum-requires-clause-fits
+sum-requires-clause-fits c =
+    let a = c.args in
+    let p = c.requires in
+    let most = sum-most a.votes.now a.size p.1 a.size (omega arith) in
+    let fits : sum (take a.size a.votes.now) < 2 ^ 64 = omega (arith, first_sum a.votes.now a.size) in
+    fits_from_yields_list _ _ (YieldsList-from_take a.size (YieldsList-from_slice a.votes.now cc) cc) fits
 
 pub returns : goal.returns
-returns c = c.loop-i.invariant.1 ∙ rw (le_antisymm c.loop-i.invariant.0 c.loop-i-test.false)
+returns c =
+    let a = c.args in
+    let told : c.sum.result ≡ sum (take a.size a.votes.now) =
+    sum_from_yields_List _ _ c.sum.ensures.ran (YieldsList-from_take a.size (YieldsList-from_slice a.votes.now cc) cc) in
+    told ∙ first_sum a.votes.now a.size

@@ -1,6 +1,7 @@
 -- `judge`: what is asked of each set, then whether all fit, then which code is due.
-use mathlib.Core.Path.{sym, ◌∙◌}
-use Rattle.setup_faults.proofs.Rules.{each-refused, comparable, told-0, told-3, told-17}
+use mathlib.Core.Path.{sym, ap, ◌∙◌}
+use mathlib.Core.Bool.{not}
+use Rattle.setup_faults.proofs.Rules.{told-site, told-none, each-refused, comparable, told-0, told-3, told-17}
 use Rattle.setup_faults.proofs.judge.Goals as goal
 
 pub returns-then-code-ne0 : goal.returns-then-code-ne0
@@ -11,20 +12,21 @@ returns-then-code-ne0 c =
 pub first_breaking-requires : goal.first_breaking-requires
 first_breaking-requires c = comparable _ _ (sym c.judge_each-code.ensures ∙ c.if-code-ne0.false)
 
-pub returns-then-first_breaking-eq0 : goal.returns-then-first_breaking-eq0
-returns-then-first_breaking-eq0 c =
+pub returns-then-is_none : goal.returns-then-is_none
+returns-then-is_none c =
     let z = sym c.judge_each-code.ensures ∙ c.if-code-ne0.false in
-    sym (told-0 _ _ z (sym c.first_breaking.ensures ∙ c.if-first_breaking-eq0.true))
+    sym (told-0 _ _ z (told-none c.first_breaking.ensures (c.is_none.ensures ∙ ap not c.if-is_none.true)))
 
 pub first_breaking-apart-requires : goal.first_breaking-apart-requires
 first_breaking-apart-requires c = comparable _ _ (sym c.judge_each-code.ensures ∙ c.if-code-ne0.false)
 
-pub returns-then-apart-ne0 : goal.returns-then-apart-ne0
-returns-then-apart-ne0 c =
+pub returns-then-is_some : goal.returns-then-is_some
+returns-then-is_some c =
     let z = sym c.judge_each-code.ensures ∙ c.if-code-ne0.false in
-    sym (told-3 _ _ z (rw c.first_breaking-apart.ensures at c.if-apart-ne0.true))
+    sym (told-3 _ _ z (told-site c.first_breaking-apart.ensures (sym c.is_some.ensures ∙ c.if-is_some.true)))
 
-pub returns-else-apart-ne0 : goal.returns-else-apart-ne0
-returns-else-apart-ne0 c =
+pub returns-else-is_some : goal.returns-else-is_some
+returns-else-is_some c =
     let z = sym c.judge_each-code.ensures ∙ c.if-code-ne0.false in
-    sym (told-17 _ _ z (rw c.first_breaking.ensures at c.if-first_breaking-eq0.false) (sym c.first_breaking-apart.ensures ∙ c.if-apart-ne0.false))
+    let some = told-site c.first_breaking.ensures (c.is_none.ensures ∙ ap not c.if-is_none.false) in
+    sym (told-17 _ _ z some (told-none c.first_breaking-apart.ensures (sym c.is_some.ensures ∙ c.if-is_some.false)))

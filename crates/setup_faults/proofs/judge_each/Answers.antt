@@ -4,7 +4,7 @@ use native.Mathlib.Omega.{arith}
 use borrow.Author.Tests.{eq-eqb, ne_eqb}
 use Rattle.model.specs.Setup.{size_listed, each_code}
 use Rattle.model.proofs.Setup.{size-listed, size-too-large}
-use Rattle.setup_faults.proofs.Rules.{all-name}
+use Rattle.setup_faults.proofs.Rules.{told-site, told-none, all-name}
 use Rattle.setup_faults.proofs.judge_each.Goals as goal
 
 pub returns-then-sets-ne-SITES : goal.returns-then-sets-ne-SITES
@@ -22,15 +22,14 @@ unfolding each_code
 returns-then-size c =
     rw (eq-eqb _ _ c.if-sets-ne-SITES.false, size-too-large _ c.if-size.true)
 
-pub first_breaking-requires : goal.first_breaking-requires
-first_breaking-requires c = (omega arith, c.if-sets-ne-SITES.false, tt)
-
-pub returns-then-first_breaking-ne0 : goal.returns-then-first_breaking-ne0
+pub returns-then-is_some : goal.returns-then-is_some
 unfolding each_code
-returns-then-first_breaking-ne0 c =
-    rw (eq-eqb _ _ c.if-sets-ne-SITES.false, size-listed c.args.size (omega arith) (omega arith), all-name _ _ ∙ ne_eqb _ 0 (rw c.first_breaking.ensures at c.if-first_breaking-ne0.true))
+returns-then-is_some c =
+    let told = told-site c.first_breaking.ensures (sym c.is_some.ensures ∙ c.if-is_some.true) in
+    rw (eq-eqb _ _ c.if-sets-ne-SITES.false, size-listed c.args.size (omega arith) (omega arith), all-name _ _ ∙ ne_eqb _ 0 told)
 
 pub returns : goal.returns
 unfolding each_code
 returns c =
-    rw (eq-eqb _ _ c.if-sets-ne-SITES.false, size-listed c.args.size (omega arith) (omega arith), all-name _ _ ∙ eq-eqb _ 0 (sym c.first_breaking.ensures ∙ c.if-first_breaking-ne0.false))
+    let none = told-none c.first_breaking.ensures (sym c.is_some.ensures ∙ c.if-is_some.false) in
+    rw (eq-eqb _ _ c.if-sets-ne-SITES.false, size-listed c.args.size (omega arith) (omega arith), all-name _ _ ∙ eq-eqb _ 0 none)

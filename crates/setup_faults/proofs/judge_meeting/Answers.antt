@@ -1,7 +1,7 @@
 -- `judge_meeting`: what is asked of each set, then whether they meet.
 use mathlib.Core.Path.{sym, ◌∙◌}
 use borrow.Author.Tests.{eq-eqb, ne_eqb}
-use Rattle.setup_faults.proofs.Rules.{all_meet_lem, each-refused, comparable, each-meeting}
+use Rattle.setup_faults.proofs.Rules.{told-site, told-none, all_meet_lem, each-refused, comparable, each-meeting}
 use Rattle.setup_faults.proofs.judge_meeting.Goals as goal
 
 pub returns-then-code-ne0 : goal.returns-then-code-ne0
@@ -12,12 +12,14 @@ returns-then-code-ne0 c =
 pub first_breaking-requires : goal.first_breaking-requires
 first_breaking-requires c = comparable _ _ (sym c.judge_each-code.ensures ∙ c.if-code-ne0.false)
 
-pub returns-then-first_breaking-ne0 : goal.returns-then-first_breaking-ne0
-returns-then-first_breaking-ne0 c =
+pub returns-then-is_some : goal.returns-then-is_some
+returns-then-is_some c =
     let z = sym c.judge_each-code.ensures ∙ c.if-code-ne0.false in
-    rw (each-meeting _ _ z, all_meet_lem _ _ ∙ ne_eqb _ 0 (rw c.first_breaking.ensures at c.if-first_breaking-ne0.true))
+    let told = told-site c.first_breaking.ensures (sym c.is_some.ensures ∙ c.if-is_some.true) in
+    rw (each-meeting _ _ z, all_meet_lem _ _ ∙ ne_eqb _ 0 told)
 
 pub returns : goal.returns
 returns c =
     let z = sym c.judge_each-code.ensures ∙ c.if-code-ne0.false in
-    rw (each-meeting _ _ z, all_meet_lem _ _ ∙ eq-eqb _ 0 (sym c.first_breaking.ensures ∙ c.if-first_breaking-ne0.false))
+    let none = told-none c.first_breaking.ensures (sym c.is_some.ensures ∙ c.if-is_some.false) in
+    rw (each-meeting _ _ z, all_meet_lem _ _ ∙ eq-eqb _ 0 none)

@@ -1,49 +1,16 @@
--- `earlier_keep`: the set at index k and each one passed so far are as the rule asks.
-use Prim.Native.Nat.{ℕ, suc, ◌^◌, ◌<◌, ◌-◌}
-use mathlib.Core.Path.{◌≡◌, sym}
-use mathlib.Core.Bool.{true}
-use mathlib.Core.List.{List}
+-- `earlier_keep`: what the code says of each pair.
+use Rattle.std.proofs.Common.{rules}
+use borrow.Author.Tests.{tests}
+use Rattle.std.proofs.lemmas.Iterator.{cases_from_all, YieldsList-from_slice}
+use lib.ListN.{take, get_or}
 use native.Mathlib.Omega.{arith}
-use native.Mathlib.Nat.{le_antisymm}
-use native.Mathlib.Numerals.{add-one}
-use borrow.Author.Rules.{rules}
-use lib.ListN.{get_or}
-use Rattle.basics.specs.Helpers.{all}
-use Rattle.basics.proofs.Basics.{all-at, all-fails, all_more}
-use Rattle.basics.proofs.Tests.{failed, passed}
-use Rattle.model.specs.Tables.{at}
-use Rattle.model.specs.Setup.{all_name}
-use Rattle.model.proofs.Sets.{names-below}
-use Rattle.setup_rules.specs.Rules.{earlier_keep}
+use mathlib.Core.Bool.{true, false}
+use Rattle.setup_rules.proofs.Earlier.{PairTold, earlier-told}
 use Rattle.setup_rules.proofs.earlier_keep.Goals as goal
 
--- a set that names sites 1 to n only
-below : (n : ℕ) (sets : List ℕ) (k : ℕ) → all_name n sets ≡ true → k < n → get_or sets k 0 < 2 ^ n
-unfolding all_name at
-below n sets k e h = names-below n (get_or sets k 0) (all-at _ n (suc k) e (omega arith) (omega arith))
-
-pub loop-i-init : goal.loop-i-init
-unfolding all
-loop-i-init c = search rules
-
-pub returns-then-not-pair_keeps : goal.returns-then-not-pair_keeps
-unfolding earlier_keep at
-returns-then-not-pair_keeps c =
-    let a = c.args in
-    let p = c.requires in
-    let i = c.loop-i.i in
-    let e = c.pair_keeps.ensures a.size (below a.size a.sets.now a.k p.3 p.2) (below a.size a.sets.now i p.3 (omega arith)) in
-    rw add-one (sym (all-fails _ a.k (suc i) (omega arith) (omega arith) (failed e c.if-not-pair_keeps.true-raw)))
-
-pub loop-i-preserved : goal.loop-i-preserved
-unfolding at
-loop-i-preserved c =
-    let a = c.args in
-    let p = c.requires in
-    let i = c.loop-i.i in
-    let e = c.pair_keeps.ensures a.size (below a.size a.sets.now a.k p.3 p.2) (below a.size a.sets.now i p.3 (omega arith)) in
-    (omega arith, all_more _ i c.loop-i.invariant.1 (passed e c.if-not-pair_keeps.false-raw))
-
 pub returns : goal.returns
-unfolding earlier_keep
-returns c = rw add-one (sym (rw (le_antisymm c.loop-i.invariant.0 c.loop-i-test.false) at c.loop-i.invariant.1))
+returns c =
+    let a = c.args in
+    let p = c.requires in
+    let told = cases_from_all _ _ _ (PairTold a.rule (get_or a.sets.now a.k 0) true) (PairTold a.rule (get_or a.sets.now a.k 0) false) c.all.ensures.ran (YieldsList-from_slice (take a.k a.sets.now) cc) (λ x q k. search (rules, tests)) (λ x q k. search (rules, tests)) in
+    earlier-told a.rule a.size a.sets.now a.k p.3 p.2 (omega arith) c.all.result told

@@ -7,21 +7,6 @@ use Rattle.model.specs.Setup.{meets_earlier, unnested_earlier}
 use Rattle.setup_rules.specs.Rules.{pair_keeps, earlier_keep, keeps_rule}
 use Rattle.setup_rules.proofs.keeps.Goals as goal
 
-pub earlier_keep-requires : goal.earlier_keep-requires
-earlier_keep-requires c =
-    let p = c.requires in
-    (p.0, p.1, p.2, rw c.in-Meets.is at p.3)
-
-pub earlier_keep-requires-in-Unnested : goal.earlier_keep-requires-in-Unnested
-earlier_keep-requires-in-Unnested c =
-    let p = c.requires in
-    (p.0, p.1, p.2, rw c.in-Unnested.is at p.3)
-
-pub earlier_keep-requires-in-Fits : goal.earlier_keep-requires-in-Fits
-earlier_keep-requires-in-Fits c =
-    let p = c.requires in
-    (p.0, p.1, p.2, rw c.in-Fits.is at p.3)
-
 pub returns-in-Names : goal.returns-in-Names
 unfolding keeps_rule at
 returns-in-Names c = rw (c.in-Names.is, add-one) c.names_sites.ensures
