@@ -1,26 +1,17 @@
--- What is found from one place on, by what stands there.
-use Rattle.std.proofs.Common.{ℕ, suc, ◌+◌, ◌-◌, ◌<◌, ◌≤◌, ◌≡◌, ◌∙◌, sym, ap, refl, List, [], ◌∷◌, length, take, drop, get_or, arith, add-one, eqb, true, false}
-use Rattle.std.proofs.Math.Seq.{drop-cons, drop-length}
-use Rattle.std.proofs.lemmas.List.{get_or-take, length-take-le}
+-- Where a byte stands first, in the library's words.
+use Rattle.std.specs.Option.{unwrap_or}
+use Rattle.std.proofs.Common.{ℕ, ◌+◌, ◌≡◌, ◌∙◌, refl, arith, Bool, cond, true, false, not, List, length, position, eqb}
+use Rattle.std.proofs.lemmas.List.Recursion.{is_position_or_len}
+use Rattle.std.proofs.lemmas.List.Sums.{prefix_len-le-length}
 use Rattle.byte_scan.specs.Bytes.{index_of, index_after}
 
-module _ (b to : ℕ) (xs : List ℕ) (k : to ≤ length xs) where
-  -- what stands at place i, and behind it
-  at_place : (i : ℕ) → i < to → drop i (take to xs) ≡ get_or xs i 0 ∷ drop (suc i) (take to xs)
-  at_place i h =
-      let inside : i < length (take to xs) = omega (arith, length-take-le to xs k) in
-      drop-cons (take to xs) i 0 inside ∙ ap (λ x. x ∷ drop (suc i) (take to xs)) (get_or-take to xs i 0 h)
+after : (t : Bool) (k : ℕ) → index_after t k ≡ cond t 0 (1 + k)
+unfolding index_after
+after true k = refl
+after false k = omega arith
 
-  pub here : (i : ℕ) → i < to → eqb (get_or xs i 0) b ≡ true → index_of b (drop i (take to xs)) ≡ 0
-  unfolding index_of index_after
-  here i h e = rw (at_place i h, e)
-
-  pub further : (i : ℕ) → i < to → eqb (get_or xs i 0) b ≡ false → index_of b (drop i (take to xs)) ≡ suc (index_of b (drop (i + 1) (take to xs)))
-  unfolding index_of index_after
-  further i h e = rw (at_place i h, e) (ap (λ n. suc (index_of b (drop n (take to xs)))) (sym (add-one i)))
-
-  pub nowhere : index_of b (drop to (take to xs)) ≡ 0
-  unfolding index_of
-  nowhere =
-      let e : drop to (take to xs) ≡ [] = ap (λ n. drop n (take to xs)) (sym (length-take-le to xs k)) ∙ drop-length (take to xs) in
-      rw e
+pub index_of-position : (b : ℕ) (xs : List ℕ) → index_of b xs ≡ unwrap_or (position (λ x. eqb x b) xs) (length xs)
+unfolding index_of
+index_of-position b xs =
+    is_position_or_len (index_of b) (λ x. eqb x b) refl (λ x ys. after (eqb x b) (index_of b ys)) xs
+    ∙ grind (arith, prefix_len-le-length (λ x. not (eqb x b)) xs)

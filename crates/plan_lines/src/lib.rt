@@ -11,7 +11,7 @@ ghost use Rattle.plan_lines.specs.Lines.{line_room, set_text, set_texts, code_te
 
 use player_bytes::{put_decimal, put_field, put_word};
 use rig::Rig;
-use rig_members::{lowest_member, members_within, without_member};
+use rig_members::each_member;
 
 // A page holds the longest text: the line `sites=` and a line `set=` for each site.
 pub const PLAN_LENGTH: usize = 8192;
@@ -46,11 +46,8 @@ fn set_line(page: &mut [u8], at: usize, set: u64) -> usize
 {
     let first = put_word(page, at, b"set=");
     let mut next = first;
-    let mut left = members_within(Rig::SITES as u64, set);
-    while left != 0 {
-        let j = lowest_member(left);
+    for j in each_member(Rig::SITES as u64, set) {
         next = put_member(page, first, next, set, j);
-        left = without_member(left, j);
     }
     put_word(page, next, b"\n")
 }
@@ -61,8 +58,8 @@ fn set_lines(page: &mut [u8], at: usize, n: usize, sets: &[u64]) -> usize
     ensures { Wrote (set_texts sets.now n) at page.old page.new result }
 {
     let mut next = at;
-    for i in 0..n {
-        next = set_line(page, next, sets[i]);
+    for set in &sets[..n] {
+        next = set_line(page, next, *set);
     }
     next
 }

@@ -4,21 +4,21 @@ use mathlib.Core.List.{[], ◌∷◌}
 use mathlib.Core.Path.{◌≡◌, refl}
 use lib.ListN.{replicate, get_or}
 use Rattle.player_numbers.specs.Numbers.{all_digits, no_leading_zero, value}
-use Rattle.player_numbers.specs.declared.Number.TheVariants.{Of, Nothing}
+use Rattle.std.specs.Prelude.{Some, None}
 use Rattle.plan_numbers.specs.Given.{largest, parameter, nothing_given, with_number, gone_wrong, with_read, with_words, given}
 
 -- `0`, `10`, the largest number, one more, and 21 digits
 numbers :
-    (parameter (48 ∷ []) ≡ Of 0)
-    × (parameter (49 ∷ 48 ∷ []) ≡ Of 10)
-    × (parameter (49 ∷ 56 ∷ 52 ∷ 52 ∷ 54 ∷ 55 ∷ 52 ∷ 52 ∷ 48 ∷ 55 ∷ 51 ∷ 55 ∷ 48 ∷ 57 ∷ 53 ∷ 53 ∷ 49 ∷ 54 ∷ 49 ∷ 53 ∷ []) ≡ Of largest)
-    × (parameter (49 ∷ 56 ∷ 52 ∷ 52 ∷ 54 ∷ 55 ∷ 52 ∷ 52 ∷ 48 ∷ 55 ∷ 51 ∷ 55 ∷ 48 ∷ 57 ∷ 53 ∷ 53 ∷ 49 ∷ 54 ∷ 49 ∷ 54 ∷ []) ≡ Of largest)
-    × (parameter (replicate 21 57) ≡ Of largest)
+    (parameter (48 ∷ []) ≡ Some 0)
+    × (parameter (49 ∷ 48 ∷ []) ≡ Some 10)
+    × (parameter (49 ∷ 56 ∷ 52 ∷ 52 ∷ 54 ∷ 55 ∷ 52 ∷ 52 ∷ 48 ∷ 55 ∷ 51 ∷ 55 ∷ 48 ∷ 57 ∷ 53 ∷ 53 ∷ 49 ∷ 54 ∷ 49 ∷ 53 ∷ []) ≡ Some largest)
+    × (parameter (49 ∷ 56 ∷ 52 ∷ 52 ∷ 54 ∷ 55 ∷ 52 ∷ 52 ∷ 48 ∷ 55 ∷ 51 ∷ 55 ∷ 48 ∷ 57 ∷ 53 ∷ 53 ∷ 49 ∷ 54 ∷ 49 ∷ 54 ∷ []) ≡ Some largest)
+    × (parameter (replicate 21 57) ≡ Some largest)
 unfolding parameter no_leading_zero all_digits value
 numbers = (refl, refl, refl, refl, refl)
 
 -- `007`, `3a`, no byte
-no-numbers : (parameter (48 ∷ 48 ∷ 55 ∷ []) ≡ Nothing) × (parameter (51 ∷ 97 ∷ []) ≡ Nothing) × (parameter [] ≡ Nothing)
+no-numbers : (parameter (48 ∷ 48 ∷ 55 ∷ []) ≡ None) × (parameter (51 ∷ 97 ∷ []) ≡ None) × (parameter [] ≡ None)
 unfolding parameter no_leading_zero all_digits value
 no-numbers = (refl, refl, refl)
 

@@ -8,20 +8,19 @@ use native.Mathlib.Numerals.{add-one}
 use native.Mathlib.Omega.{arith}
 use lib.ListN.{length, get_or, drop, drop_of_length-le}
 use lib.Seq.{drop-cons}
+use Rattle.std.specs.Prelude.{Option, Some, None}
 use Rattle.player_numbers.specs.Numbers.{is_digit, all_digits, no_leading_zero, value}
-use Rattle.player_numbers.specs.declared.Number.{Number}
-use Rattle.player_numbers.specs.declared.Number.TheVariants.{Of, Nothing}
 use Rattle.plan_numbers.specs.Given.{largest, parameter}
 
 -- what is left to read, behind the digits of n
-abbrev pub number_from : ℕ → List ℕ → Number
-number_from n bs = cond (all_digits bs) (Of (min (value n bs) largest)) Nothing
+abbrev pub number_from : ℕ → List ℕ → Option ℕ
+number_from n bs = cond (all_digits bs) (Some (min (value n bs) largest)) None
 
 pub number-begun : (bs : List ℕ) → no_leading_zero bs ≡ true → parameter bs ≡ number_from 0 bs
 unfolding parameter
 number-begun bs h = rw h
 
-pub leading-zero : (bs : List ℕ) → no_leading_zero bs ≡ false → parameter bs ≡ Nothing
+pub leading-zero : (bs : List ℕ) → no_leading_zero bs ≡ false → parameter bs ≡ None
 unfolding parameter
 leading-zero bs h = rw h
 
@@ -39,10 +38,10 @@ module _ (bs : List ℕ) (n i : ℕ) where
   unfolding all_digits value
   digit_at h d = rw (add-one, drop-cons bs i 0 h, d, value-limited)
 
-  pub other_at : i < length bs → is_digit (get_or bs i 0) ≡ false → number_from n (drop i bs) ≡ Nothing
+  pub other_at : i < length bs → is_digit (get_or bs i 0) ≡ false → number_from n (drop i bs) ≡ None
   unfolding all_digits
   other_at h d = rw (drop-cons bs i 0 h, d)
 
-  pub number-ended : length bs ≤ i → n ≤ largest → number_from n (drop i bs) ≡ Of n
+  pub number-ended : length bs ≤ i → n ≤ largest → number_from n (drop i bs) ≡ Some n
   unfolding all_digits value
   number-ended h l = rw (drop_of_length-le bs {i = i} h, min-eq_left l)

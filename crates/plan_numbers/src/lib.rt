@@ -5,19 +5,16 @@ ghost use Rattle.std.specs.Prelude.{◌+◌, ◌-◌, ◌*◌, min, true, ◌≡
 ghost use Rattle.player_numbers.specs.Numbers.{is_digit};
 ghost use Rattle.plan_numbers.specs.Given.{largest, parameter, nothing_given, gone_wrong, with_number, with_word};
 
-use player_numbers::{Number, is_digit, no_leading_zero};
+use player_numbers::{is_digit, no_leading_zero};
 use rig::Rig;
 
-// The words so far: whether one is no number, how many are numbers, and the first of these, one for each site of the largest rig.
+// The words so far (what may not change: `plan_text::plan` takes it with its flag `wrong`): whether one is no number, how many are numbers, and the first of these, one for each site of the largest rig.
 #[derive(Clone, Copy)]
 pub struct Given {
     pub wrong: bool,
     pub count: u64,
     pub numbers: [u64; Rig::SITES],
 }
-
-// The largest number of 64 bits.
-const LARGEST: u64 = 18446744073709551615;
 
 // Before the first word.
 pub fn nothing_given() -> Given
@@ -34,7 +31,7 @@ pub fn nothing_given() -> Given
 pub fn with_word(given: Given, word: &[u8]) -> Given
     ensures { result ≡ with_word given word.now }
 {
-    let Number::Of(n) = number_of(word) else {
+    let Some(n) = number_of(word) else {
         return gone_wrong(given);
     };
     with_number(given, n)
@@ -44,11 +41,9 @@ pub fn with_word(given: Given, word: &[u8]) -> Given
 fn gone_wrong(given: Given) -> Given
     ensures { result ≡ gone_wrong given }
 {
-    let numbers = given.numbers;
     Given {
         wrong: true,
-        count: given.count,
-        numbers,
+        ..given
     }
 }
 
@@ -59,9 +54,9 @@ fn with_number(given: Given, n: u64) -> Given
     let mut numbers = given.numbers;
     put_at(&mut numbers, given.count, n);
     Given {
-        wrong: given.wrong,
-        count: counted(given.count),
+        count: given.count.saturating_add(1),
         numbers,
+        ..given
     }
 }
 
@@ -75,32 +70,21 @@ fn put_at(numbers: &mut [u64], i: u64, n: u64)
     numbers[i as usize] = n;
 }
 
-// One more, at most the largest.
-fn counted(n: u64) -> u64
-    ensures { result ≡ min (n + 1) largest }
-{
-    if n == LARGEST {
-        return LARGEST;
-    }
-    n + 1
-}
-
 // The number that a word is, of any value: above the largest number of 64 bits it is that one.
-fn number_of(word: &[u8]) -> Number
+fn number_of(word: &[u8]) -> Option<u64>
     ensures { result ≡ parameter word.now }
 {
     if !no_leading_zero(word) {
-        return Number::Nothing;
+        return None;
     }
     let mut n = 0;
-    for i in 0..word.len() {
-        let b = word[i];
-        if !is_digit(b) {
-            return Number::Nothing;
+    for b in word {
+        if !is_digit(*b) {
+            return None;
         }
-        n = with_digit(n, b);
+        n = with_digit(n, *b);
     }
-    Number::Of(n)
+    Some(n)
 }
 
 // The number n with one digit behind it, at most the largest.
@@ -108,9 +92,5 @@ fn with_digit(n: u64, b: u8) -> u64
     requires { is_digit b ≡ true }
     ensures { result ≡ min (n * 10 + (b - 48)) largest }
 {
-    let d = (b - b'0') as u64;
-    if n > (LARGEST - d) / 10 {
-        return LARGEST;
-    }
-    n * 10 + d
+    n.saturating_mul(10).saturating_add((b - b'0') as u64)
 }

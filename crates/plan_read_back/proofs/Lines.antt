@@ -3,7 +3,7 @@ use Prim.Native.Nat.{ℕ, zero, suc, ◌+◌, ◌-◌, ◌*◌, ◌/◌, ◌%◌
 use mathlib.Core.Bool.{true}
 use mathlib.Core.List.{List, [], ◌∷◌, ◌++◌, append-nil}
 use mathlib.Core.Logic.{◌≢◌}
-use mathlib.Core.Option.{some}
+use Rattle.std.specs.Prelude.{Some}
 use mathlib.Core.Path.{◌≡◌, refl, sym, ap, ◌∙◌}
 use native.Mathlib.Nat.{mod-lt, mod-eq_of_lt}
 use native.Mathlib.Omega.{arith}
@@ -47,7 +47,7 @@ unfolding parts longer All
 parts_last [] h = refl
 parts_last (d ∷ ds) h = rw (h.0, parts_last ds h.1)
 
-numbers-read : (n : ℕ) (ns : List ℕ) → All (λ m. m ≤ 999) (n ∷ ns) → numbers (list_text (n ∷ ns)) ≡ some (n ∷ ns)
+numbers-read : (n : ℕ) (ns : List ℕ) → All (λ m. m ≤ 999) (n ∷ ns) → numbers (list_text (n ∷ ns)) ≡ Some (n ∷ ns)
 unfolding numbers all_numbers before list_text All
 numbers-read n [] h = rw (parts_last (decimal n) (decimal-lacks 44 n (omega arith)), number_read n h.0)
 numbers-read n (m ∷ ns) h =

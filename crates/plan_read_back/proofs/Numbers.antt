@@ -12,7 +12,7 @@ use Rattle.basics.specs.Helpers.{All}
 use Rattle.basics.proofs.Basics.{by_bool, and_split}
 use Rattle.player_bytes.specs.Decimal.{digits, decimal}
 use Rattle.player_numbers.specs.Numbers.{is_digit, all_digits, no_leading_zero, value, number}
-use Rattle.player_numbers.specs.declared.Number.TheVariants.{Of}
+use Rattle.std.specs.Prelude.{Some}
 
 -- one byte more at the end
 digits-snoc : (bs : List ℕ) (b : ℕ) → all_digits bs ≡ true → is_digit b ≡ true → all_digits (bs ++ b ∷ []) ≡ true
@@ -97,6 +97,6 @@ decimal-value : (n : ℕ) → n ≤ 999 → value 0 (decimal n) ≡ n
 unfolding decimal
 decimal-value n h = digits_value 20 n (omega arith)
 
-pub number_read : (n : ℕ) → n ≤ 999 → number (decimal n) ≡ Of n
+pub number_read : (n : ℕ) → n ≤ 999 → number (decimal n) ≡ Some n
 unfolding number
 number_read n h = rw (no-leading-zero n h, decimal-digits n, decimal-value n h, le-leb n 999 h)

@@ -1,12 +1,13 @@
 -- Bytes stored one by one.
-use Prim.Native.Nat.{ℕ, suc, ◌+◌, ◌≤◌, ◌<◌}
-use mathlib.Core.List.{List, [], ◌∷◌, ◌++◌}
-use mathlib.Core.Path.{◌≡◌, ◌∙◌}
+use Prim.Native.Nat.{ℕ, suc, ◌+◌, ◌≤◌}
+use mathlib.Core.List.{List, [], ◌∷◌, ◌++◌, append_assoc}
+use mathlib.Core.Path.{◌≡◌, refl, ◌∙◌}
 use native.Mathlib.Nat.{add-zero}
 use native.Mathlib.Omega.{arith}
-use native.Mathlib.Numerals.{add-one}
-use lib.ListN.{length, get_or, drop, set, length-append, drop_of_length-le}
-use lib.Seq.{sets, set_comm, drop-cons}
+use lib.ListN.{length, set, length-append}
+use lib.Seq.{sets, set_comm}
+use borrow.Rule.Slice.PartMut.{put_mid}
+use lib.Seq.{sets-eq, drop-drop}
 use Rattle.player_bytes.specs.Wrote.{Wrote}
 
 -- some, then more behind them
@@ -14,13 +15,9 @@ pub stores-more : (page : List ℕ) (at : ℕ) (xs ys : List ℕ) → sets (sets
 stores-more page at [] ys = rw add-zero
 stores-more page at (x ∷ xs) ys = let e : at + suc (length xs) ≡ suc at + length xs = omega arith in rw e (stores-more (set page at x) (suc at) xs ys)
 
--- a word, from its place i on
-module _ (page word : List ℕ) (at i : ℕ) where
-  pub byte-stored : i < length word → sets page (at + i) (drop i word) ≡ sets (set page (at + i) (get_or word i 0)) (at + (i + 1)) (drop (i + 1) word)
-  byte-stored h = let e : at + (i + 1) ≡ suc (at + i) = omega arith in rw (e, add-one, drop-cons word i 0 h)
-
-  pub word-stored : length word ≤ i → sets page (at + i) (drop i word) ≡ page
-  word-stored h = rw (drop_of_length-le word {i = i} h)
+-- a word written to the part from place `at` on
+pub part-stored : (page word : List ℕ) (at : ℕ) → at + length word ≤ length page → put_mid at (length word) page word ≡ sets page at word
+part-stored page word at h = rw (sets-eq word page at h, drop-drop, append_assoc) refl
 
 -- the last one first
 pub last-first : (page : List ℕ) (at : ℕ) (xs : List ℕ) (y : ℕ) → sets (set page (at + length xs) y) at xs ≡ sets page at (xs ++ (y ∷ []))

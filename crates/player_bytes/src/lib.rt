@@ -20,8 +20,8 @@ fn places(n: u64) -> usize
     let mut k = 1;
     let mut rest = n;
     while rest >= 10 {
-        rest = rest / 10;
-        k = k + 1;
+        rest /= 10;
+        k += 1;
     }
     k
 }
@@ -36,8 +36,8 @@ pub fn put_decimal(page: &mut [u8], at: usize, n: u64) -> usize
     let mut rest = n;
     while rest >= 10 {
         page[i] = last_digit(rest);
-        rest = rest / 10;
-        i = i - 1;
+        rest /= 10;
+        i -= 1;
     }
     page[i] = last_digit(rest);
     end
@@ -48,10 +48,9 @@ pub fn put_word(page: &mut [u8], at: usize, word: &[u8]) -> usize
     requires { at + length word.now ≤ length page.old }
     ensures { Wrote word.now at page.old page.new result }
 {
-    for i in 0..word.len() {
-        page[at + i] = word[i];
-    }
-    at + word.len()
+    let end = at + word.len();
+    page[at..end].copy_from_slice(word);
+    end
 }
 
 // An inner call: a word and a number; answers the place behind them.
@@ -68,13 +67,5 @@ pub fn put_field(page: &mut [u8], at: usize, word: &[u8], n: u64) -> usize
 pub fn same_bytes(x: &[u8], y: &[u8]) -> bool
     ensures { result ≡ same x.now y.now }
 {
-    if x.len() != y.len() {
-        return false;
-    }
-    for i in 0..x.len() {
-        if x[i] != y[i] {
-            return false;
-        }
-    }
-    true
+    x == y
 }

@@ -2,8 +2,7 @@
 use Prim.Native.Nat.{ℕ, suc, ◌+◌, ◌-◌, ◌≤◌, ◌<◌}
 use mathlib.Core.Bool.{Bool, true, false, ◌&&◌, cond}
 use mathlib.Core.List.{List, [], ◌∷◌}
-use mathlib.Core.Option.{Option, none, some}
-use mathlib.Core.Path.{◌≡◌, refl}
+use mathlib.Core.Path.{◌≡◌, refl, sym, ◌∙◌}
 use native.Mathlib.Numerals.{add-one}
 use native.Mathlib.Omega.{arith}
 use borrow.Author.Tests.{ltb-true, ltb-false, le-leb, lt-leb, eqb-true}
@@ -11,14 +10,13 @@ use lib.Bits.{bit_or}
 use lib.Dec.{leb, ltb, eqb}
 use lib.ListN.{length, take, drop, length-drop}
 use lib.Seq.{take_all, take-length, drop-drop}
+use Rattle.std.specs.Prelude.{Option, Some, None, MatchOption}
 use Rattle.basics.proofs.Basics.{by_bool, and_second}
 use Rattle.byte_scan.specs.Bytes.{index_after, index_of, slice}
 use Rattle.player_numbers.specs.Numbers.{is_digit, all_digits, no_leading_zero, number}
 use Rattle.player_grammar.specs.Grammar.{longer, parts, before, all_numbers, numbers, ascends, site_bit, with_sites, set_line, one, move_line}
 use Rattle.player_grammar.specs.declared.Line.{Line}
 use Rattle.player_grammar.specs.declared.Line.TheVariants.{Set, Move, Malformed}
-use Rattle.player_numbers.specs.declared.Number.{Number}
-use Rattle.player_numbers.specs.declared.Number.TheVariants.{Of, Nothing}
 
 -- where the first comma is
 abbrev pub comma : List ℕ → ℕ
@@ -50,7 +48,7 @@ pub numbers-comma : (bs : List ℕ) → comma bs < length bs → numbers bs ≡ 
 unfolding numbers all_numbers
 numbers-comma bs h = rw (parts-comma bs h)
 
-pub numbers-last : (bs : List ℕ) → length bs ≤ comma bs → numbers bs ≡ before (number bs) (some [])
+pub numbers-last : (bs : List ℕ) → length bs ≤ comma bs → numbers bs ≡ before (number bs) (Some [])
 unfolding numbers all_numbers
 numbers-last bs h = rw (parts_last bs h)
 
@@ -63,28 +61,28 @@ comma-no-digit (b ∷ bs) h =
     (λ e. rw (eqb-true b 44 e))
     (λ e. let g : suc (comma bs) < suc (length bs) = rw e at h in and_second (is_digit b) (all_digits bs) (comma-no-digit bs (omega arith)))
 
-comma-no-number : (bs : List ℕ) → comma bs < length bs → number bs ≡ Nothing
+comma-no-number : (bs : List ℕ) → comma bs < length bs → number bs ≡ None
 unfolding number
 comma-no-number bs h = rw (comma-no-digit bs h, and_second (no_leading_zero bs) false refl)
 
-abbrev pub one_of : (ℕ → Line) → Number → Line
-one_of line (Of n) = line n
-one_of line Nothing = Malformed
+abbrev pub one_of : (ℕ → Line) → Option ℕ → Line
+one_of line (Some n) = line n
+one_of line None = Malformed
 
 module _ (line : ℕ → Line) where
-  one-before : (x : Number) → one line (before x (some [])) ≡ one_of line x
+  one-before : (x : Option ℕ) → one line (before x (Some [])) ≡ one_of line x
   unfolding one before
-  one-before (Of n) = refl
-  one-before Nothing = refl
+  one-before (Some n) = refl
+  one-before None = refl
 
-  more-than-one : (x y : Number) (ns : Option (List ℕ)) → one line (before x (before y ns)) ≡ Malformed
+  more-than-one : (x y : Option ℕ) (ns : Option (List ℕ)) → one line (before x (before y ns)) ≡ Malformed
   unfolding one before
-  more-than-one (Of n) (Of m) (some ns) = refl
-  more-than-one (Of n) (Of m) none = refl
-  more-than-one (Of n) Nothing ns = refl
-  more-than-one Nothing y ns = refl
+  more-than-one (Some n) (Some m) (Some ns) = refl
+  more-than-one (Some n) (Some m) None = refl
+  more-than-one (Some n) None ns = refl
+  more-than-one None y ns = refl
 
-  after-comma : (x : Number) (bs : List ℕ) → one line (before x (numbers bs)) ≡ Malformed
+  after-comma : (x : Option ℕ) (bs : List ℕ) → one line (before x (numbers bs)) ≡ Malformed
   after-comma x bs =
       by_bool (ltb (comma bs) (length bs))
       (λ e. rw (numbers-comma bs (ltb-true _ _ e)) (more-than-one x _ _))
@@ -96,22 +94,27 @@ module _ (line : ℕ → Line) where
       (λ e. let h = ltb-true _ _ e in rw (numbers-comma bs h, comma-no-number bs h) (after-comma _ _))
       (λ e. rw (numbers-last bs (ltb-false _ _ e)) (one-before (number bs)))
 
--- A move: one number, a comma, and one number.
-pub move-before : (a : ℕ) (ns : Option (List ℕ)) → move_line (before (Of a) ns) ≡ one (Move a) ns
-unfolding move_line before one
-move-before a none = refl
-move-before a (some []) = refl
-move-before a (some (b ∷ [])) = refl
-move-before a (some (b ∷ c ∷ ns)) = refl
+  -- as the code reads it
+  pub read-one : (x : Option ℕ) (bs : List ℕ) (r : Line) → x ≡ number bs → MatchOption x (r ≡ Malformed) (λ n. r ≡ line n) → r ≡ one line (numbers bs)
+  read-one (Some n) bs r e h = h ∙ sym (one_number bs ∙ rw (← e) refl)
+  read-one None bs r e h = h ∙ sym (one_number bs ∙ rw (← e) refl)
 
-pub move-malformed : (ns : Option (List ℕ)) → move_line (before Nothing ns) ≡ Malformed
+-- A move: one number, a comma, and one number.
+pub move-before : (a : ℕ) (ns : Option (List ℕ)) → move_line (before (Some a) ns) ≡ one (Move a) ns
+unfolding move_line before one
+move-before a None = refl
+move-before a (Some []) = refl
+move-before a (Some (b ∷ [])) = refl
+move-before a (Some (b ∷ c ∷ ns)) = refl
+
+pub move-malformed : (ns : Option (List ℕ)) → move_line (before None ns) ≡ Malformed
 unfolding move_line before
 move-malformed ns = refl
 
-pub move-single : (x : Number) → move_line (before x (some [])) ≡ Malformed
+pub move-single : (x : Option ℕ) → move_line (before x (Some [])) ≡ Malformed
 unfolding move_line before
-move-single (Of a) = refl
-move-single Nothing = refl
+move-single (Some a) = refl
+move-single None = refl
 
 -- A set, where the next number has to be low at least.
 abbrev rises : ℕ → List ℕ → Bool
@@ -119,8 +122,8 @@ rises low [] = true
 rises low (n ∷ ns) = leb low n && rises (suc n) ns
 
 abbrev pub set_from : ℕ → ℕ → Option (List ℕ) → Line
-set_from low set none = Malformed
-set_from low set (some ns) = cond (rises low ns) (Set (with_sites set ns)) Malformed
+set_from low set None = Malformed
+set_from low set (Some ns) = cond (rises low ns) (Set (with_sites set ns)) Malformed
 
 ascends-rises : (a : ℕ) (ns : List ℕ) → ascends (a ∷ ns) ≡ rises (suc a) ns
 unfolding ascends
@@ -129,32 +132,32 @@ ascends-rises a (b ∷ ns) = rw (ascends-rises b ns)
 
 pub set-begun : (ns : Option (List ℕ)) → set_line ns ≡ set_from 0 0 ns
 unfolding set_line ascends
-set-begun none = refl
-set-begun (some []) = refl
-set-begun (some (a ∷ ns)) = rw (ascends-rises a ns, le-leb 0 a (omega arith))
+set-begun None = refl
+set-begun (Some []) = refl
+set-begun (Some (a ∷ ns)) = rw (ascends-rises a ns, le-leb 0 a (omega arith))
 
 module _ (low set : ℕ) where
-  pub set_ended : set_from low set (some []) ≡ Set set
+  pub set_ended : set_from low set (Some []) ≡ Set set
   unfolding with_sites
   set_ended = refl
 
-  pub set-malformed : (ns : Option (List ℕ)) → set_from low set (before Nothing ns) ≡ Malformed
+  pub set-malformed : (ns : Option (List ℕ)) → set_from low set (before None ns) ≡ Malformed
   unfolding before
   set-malformed ns = refl
 
-  pub set-falls : (n : ℕ) (ns : Option (List ℕ)) → n < low → set_from low set (before (Of n) ns) ≡ Malformed
+  pub set-falls : (n : ℕ) (ns : Option (List ℕ)) → n < low → set_from low set (before (Some n) ns) ≡ Malformed
   unfolding before
-  set-falls n none h = refl
-  set-falls n (some ns) h = rw (lt-leb low n h)
+  set-falls n None h = refl
+  set-falls n (Some ns) h = rw (lt-leb low n h)
 
-  pub set-rises : (n : ℕ) (ns : Option (List ℕ)) → low ≤ n → set_from low set (before (Of n) ns) ≡ set_from (n + 1) (bit_or set (site_bit n)) ns
+  pub set-rises : (n : ℕ) (ns : Option (List ℕ)) → low ≤ n → set_from low set (before (Some n) ns) ≡ set_from (n + 1) (bit_or set (site_bit n)) ns
   unfolding before with_sites
-  set-rises n none h = refl
-  set-rises n (some ns) h = rw (le-leb low n h, add-one)
+  set-rises n None h = refl
+  set-rises n (Some ns) h = rw (le-leb low n h, add-one)
 
 -- The numbers from place `at` on; place length + 1 is behind the last part.
 abbrev pub numbers_at : List ℕ → ℕ → Option (List ℕ)
-numbers_at bs at = cond (leb at (length bs)) (numbers (drop at bs)) (some [])
+numbers_at bs at = cond (leb at (length bs)) (numbers (drop at bs)) (Some [])
 
 module _ (bs : List ℕ) (at end : ℕ) (h : at ≤ length bs) (e : end ≡ at + comma (drop at bs)) where
   pub next-number : numbers_at bs at ≡ before (number (take (end - at) (drop at bs))) (numbers_at bs (end + 1))

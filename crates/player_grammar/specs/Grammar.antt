@@ -1,10 +1,7 @@
 -- Document 01, "The player": what one line means. A line is its bytes before byte 10, of any number and any value.
-use Rattle.std.specs.Prelude.{ℕ, ◌-◌, ◌^◌, Bool, true, false, ◌&&◌, cond, List, [], ◌∷◌, leb, ltb, eqb, length, drop}
-use Rattle.std.proofs.Math.Option.{Option, none, some}
+use Rattle.std.specs.Prelude.{ℕ, ◌-◌, ◌^◌, Bool, true, false, ◌&&◌, cond, List, [], ◌∷◌, leb, ltb, eqb, length, drop, Option, Some, None}
 use Rattle.std.specs.Int.Bits.{bit_or}
 use Rattle.rig.specs.Limits.{site_limit}
-use Rattle.player_numbers.specs.declared.Number.{Number}
-use Rattle.player_numbers.specs.declared.Number.TheVariants.{Of, Nothing}
 use Rattle.player_numbers.specs.Numbers.{number}
 use Rattle.player_grammar.specs.declared.Line.{Line}
 use Rattle.player_grammar.specs.declared.Line.TheVariants.{Sites, Set, Ask, Leave, Move, Malformed}
@@ -20,13 +17,13 @@ parts [] = [] ∷ []
 parts (b ∷ bs) = cond (eqb b 44) ([] ∷ parts bs) (longer b (parts bs))
 
 -- a number in front of those of a list; none where either is missing
-unfoldable pub before : Number → Option (List ℕ) → Option (List ℕ)
-before (Of n) (some ns) = some (n ∷ ns)
-before (Of n) none = none
-before Nothing ns = none
+unfoldable pub before : Option ℕ → Option (List ℕ) → Option (List ℕ)
+before (Some n) (Some ns) = Some (n ∷ ns)
+before (Some n) None = None
+before None ns = None
 
 unfoldable pub all_numbers : List (List ℕ) → Option (List ℕ)
-all_numbers [] = some []
+all_numbers [] = Some []
 all_numbers (p ∷ ps) = before (number p) (all_numbers ps)
 
 -- the numbers that bytes list; none where they are no list
@@ -51,21 +48,21 @@ with_sites set (n ∷ ns) = with_sites (bit_or set (site_bit n)) ns
 
 -- what the numbers say behind `set=`; behind a word that takes exactly one; behind `move=`, which takes exactly two
 unfoldable pub set_line : Option (List ℕ) → Line
-set_line none = Malformed
-set_line (some ns) = cond (ascends ns) (Set (with_sites 0 ns)) Malformed
+set_line None = Malformed
+set_line (Some ns) = cond (ascends ns) (Set (with_sites 0 ns)) Malformed
 
 unfoldable pub one : (ℕ → Line) → Option (List ℕ) → Line
-one line none = Malformed
-one line (some []) = Malformed
-one line (some (a ∷ [])) = line a
-one line (some (a ∷ b ∷ ns)) = Malformed
+one line None = Malformed
+one line (Some []) = Malformed
+one line (Some (a ∷ [])) = line a
+one line (Some (a ∷ b ∷ ns)) = Malformed
 
 unfoldable pub move_line : Option (List ℕ) → Line
-move_line none = Malformed
-move_line (some []) = Malformed
-move_line (some (a ∷ [])) = Malformed
-move_line (some (a ∷ b ∷ [])) = Move a b
-move_line (some (a ∷ b ∷ c ∷ ns)) = Malformed
+move_line None = Malformed
+move_line (Some []) = Malformed
+move_line (Some (a ∷ [])) = Malformed
+move_line (Some (a ∷ b ∷ [])) = Move a b
+move_line (Some (a ∷ b ∷ c ∷ ns)) = Malformed
 
 -- `sites=`, `set=`, `ask=`, `leave=`, `move=`
 abbrev pub sites_word : List ℕ

@@ -2,9 +2,9 @@
 #![tactic(auto)]
 
 ghost use Rattle.std.specs.Prelude.{◌≡◌};
-ghost use Rattle.player_grammar.specs.Grammar.{numbers, site_bit, set_line, one, move_line, starts, event_form, meaning_of};
+ghost use Rattle.player_grammar.specs.Grammar.{numbers, site_bit, set_line, move_line, event_form, meaning_of};
 
-use player_numbers::{Number, read_number};
+use player_numbers::read_number;
 use rig::Rig;
 
 // The bytes that a line may have before its byte 10.
@@ -42,47 +42,17 @@ fn set_line(list: &[u8]) -> Line
     let mut set = 0;
     while at <= list.len() {
         let end = byte_scan::find(list, at, list.len(), b',');
-        let Number::Of(n) = read_number(&list[at..end]) else {
+        let Some(n) = read_number(&list[at..end]) else {
             return Line::Malformed;
         };
         if n < low {
             return Line::Malformed;
         }
-        set = set | site_bit(n);
+        set |= site_bit(n);
         low = n + 1;
         at = end + 1;
     }
     Line::Set(set)
-}
-
-// The number behind `sites=`.
-fn sites_line(list: &[u8]) -> Line
-    ensures { result ≡ one (λ n. Line.Sites n) (numbers list.now) }
-{
-    match read_number(list) {
-        Number::Of(n) => Line::Sites(n),
-        Number::Nothing => Line::Malformed,
-    }
-}
-
-// The number behind `ask=`.
-fn ask_line(list: &[u8]) -> Line
-    ensures { result ≡ one (λ n. Line.Ask n) (numbers list.now) }
-{
-    match read_number(list) {
-        Number::Of(n) => Line::Ask(n),
-        Number::Nothing => Line::Malformed,
-    }
-}
-
-// The number behind `leave=`.
-fn leave_line(list: &[u8]) -> Line
-    ensures { result ≡ one (λ n. Line.Leave n) (numbers list.now) }
-{
-    match read_number(list) {
-        Number::Of(n) => Line::Leave(n),
-        Number::Nothing => Line::Malformed,
-    }
 }
 
 // The two numbers behind `move=`.
@@ -93,43 +63,27 @@ fn move_line(list: &[u8]) -> Line
     if end >= list.len() {
         return Line::Malformed;
     }
-    let Number::Of(a) = read_number(&list[..end]) else {
+    let Some(a) = read_number(&list[..end]) else {
         return Line::Malformed;
     };
-    let from = end + 1;
-    let Number::Of(b) = read_number(&list[from..]) else {
+    let Some(b) = read_number(&list[end + 1..]) else {
         return Line::Malformed;
     };
     Line::Move(a, b)
-}
-
-// Whether the line starts with the word.
-fn starts_with(word: &[u8], line: &[u8]) -> bool
-    ensures { result ≡ starts word.now line.now }
-{
-    for i in 0..word.len() {
-        if i >= line.len() {
-            return false;
-        }
-        if line[i] != word[i] {
-            return false;
-        }
-    }
-    true
 }
 
 // What a line means that is an event's, if it means anything.
 fn event_line(line: &[u8]) -> Line
     ensures { result ≡ event_form line.now }
 {
-    if starts_with(b"ask=", line) {
-        return ask_line(&line[4..]);
+    if let Some(list) = line.strip_prefix(b"ask=") {
+        return read_number(list).map_or(Line::Malformed, Line::Ask);
     }
-    if starts_with(b"leave=", line) {
-        return leave_line(&line[6..]);
+    if let Some(list) = line.strip_prefix(b"leave=") {
+        return read_number(list).map_or(Line::Malformed, Line::Leave);
     }
-    if starts_with(b"move=", line) {
-        return move_line(&line[5..]);
+    if let Some(list) = line.strip_prefix(b"move=") {
+        return move_line(list);
     }
     Line::Malformed
 }
@@ -141,11 +95,11 @@ pub fn meaning(line: &[u8]) -> Line
     if line.len() > LINE_LIMIT {
         return Line::Malformed;
     }
-    if starts_with(b"sites=", line) {
-        return sites_line(&line[6..]);
+    if let Some(list) = line.strip_prefix(b"sites=") {
+        return read_number(list).map_or(Line::Malformed, Line::Sites);
     }
-    if starts_with(b"set=", line) {
-        return set_line(&line[4..]);
+    if let Some(list) = line.strip_prefix(b"set=") {
+        return set_line(list);
     }
     event_line(line)
 }

@@ -1,7 +1,5 @@
 -- Document 01, "The player": what bytes say as a number.
-use Rattle.std.specs.Prelude.{ℕ, ◌+◌, ◌-◌, ◌*◌, Bool, true, false, not, ◌&&◌, cond, List, [], ◌∷◌, leb, eqb}
-use Rattle.player_numbers.specs.declared.Number.{Number}
-use Rattle.player_numbers.specs.declared.Number.TheVariants.{Of, Nothing}
+use Rattle.std.specs.Prelude.{ℕ, ◌+◌, ◌-◌, ◌*◌, Bool, true, false, not, ◌&&◌, cond, List, [], ◌∷◌, leb, eqb, Option, Some, None}
 
 -- "Numbers are 0 to 999 without leading zeros." The digits are bytes 48 to 57.
 abbrev pub is_digit : ℕ → Bool
@@ -22,5 +20,6 @@ unfoldable pub value : ℕ → List ℕ → ℕ
 value n [] = n
 value n (b ∷ bs) = value (n * 10 + (b - 48)) bs
 
-unfoldable pub number : List ℕ → Number
-number bs = cond (no_leading_zero bs && (all_digits bs && leb (value 0 bs) 999)) (Of (value 0 bs)) Nothing
+-- the number that bytes are, if they are one
+unfoldable pub number : List ℕ → Option ℕ
+number bs = cond (no_leading_zero bs && (all_digits bs && leb (value 0 bs) 999)) (Some (value 0 bs)) None

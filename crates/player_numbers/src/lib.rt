@@ -4,13 +4,6 @@
 ghost use Rattle.std.specs.Prelude.{◌+◌, ◌-◌, ◌*◌, ◌≤◌, true, ◌≡◌};
 ghost use Rattle.player_numbers.specs.Numbers.{is_digit, no_leading_zero, number};
 
-// What bytes say as a number.
-#[derive(Clone, Copy)]
-pub enum Number {
-    Of(u64),
-    Nothing,
-}
-
 // Whether a byte is a digit.
 pub fn is_digit(b: u8) -> bool
     ensures { result ≡ is_digit b }
@@ -42,23 +35,22 @@ pub fn no_leading_zero(part: &[u8]) -> bool
     part[0] != b'0'
 }
 
-// The number that all of these bytes are.
-pub fn read_number(part: &[u8]) -> Number
+// The number that all of these bytes are, if they are one.
+pub fn read_number(part: &[u8]) -> Option<u64>
     ensures { result ≡ number part.now }
 {
     if !no_leading_zero(part) {
-        return Number::Nothing;
+        return None;
     }
     let mut n = 0;
-    for i in 0..part.len() {
-        let b = part[i];
-        if !is_digit(b) {
-            return Number::Nothing;
+    for b in part {
+        if !is_digit(*b) {
+            return None;
         }
-        n = with_digit(n, b);
+        n = with_digit(n, *b);
         if n > 999 {
-            return Number::Nothing;
+            return None;
         }
     }
-    Number::Of(n)
+    Some(n)
 }

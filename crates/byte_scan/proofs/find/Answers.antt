@@ -1,26 +1,21 @@
--- `find`: none of the bytes passed so far is the one.
-use Rattle.std.proofs.Common.{◌≡◌, refl, arith, eq-eqb, ne_eqb}
-use native.Mathlib.Nat.{le_antisymm}
-use Rattle.byte_scan.specs.Bytes.{slice}
-use Rattle.byte_scan.proofs.Scans.{here, further, nowhere}
+-- `find`: by whether the byte stands in the part.
+use Rattle.std.specs.Option.{unwrap_or}
+use Rattle.std.proofs.Common.{◌≡◌, ◌-◌, refl, arith}
+use Rattle.std.proofs.lemmas.Slice.{between_is}
+use Rattle.std.proofs.lemmas.List.Edits.{length-between}
+use Rattle.byte_scan.specs.Bytes.{index_of, slice}
+use Rattle.byte_scan.proofs.Scans.{index_of-position}
 use Rattle.byte_scan.proofs.find.Goals as goal
+use Rattle.byte_scan.proofs.find.Goals.{After-first_place}
 
-pub loop-i-init : goal.loop-i-init
+found : (c : After-first_place) → index_of c.args.byte (slice c.args.from c.args.to c.args.list.now) ≡ unwrap_or c.first_place.result (c.args.to - c.args.from)
 unfolding slice
-loop-i-init c = refl
+found c =
+    let a = c.args in
+    rw (← between_is a.list.now a.from a.to, index_of-position, ← c.first_place.ensures, length-between a.list.now a.from a.to c.requires.in_range) refl
 
-pub returns-then-list-i-clause-value : goal.returns-then-list-i-clause-value
-returns-then-list-i-clause-value c =
-    let h = here c.args.byte c.args.to c.args.list.now c.requires.in_range c.loop-i.i (omega arith) (eq-eqb _ _ c.if-list-i.true) in
-    omega (arith, c.loop-i.invariant, h)
+pub returns-in-Some-clause-value : goal.returns-in-Some-clause-value
+returns-in-Some-clause-value c = rw (found (goal.at.returns-in-Some-clause-value c).After-first_place, c.in-Some.is) refl
 
-pub loop-i-preserved : goal.loop-i-preserved
-loop-i-preserved c =
-    let h = further c.args.byte c.args.to c.args.list.now c.requires.in_range c.loop-i.i (omega arith) (ne_eqb _ _ c.if-list-i.false) in
-    omega (arith, c.loop-i.invariant, h)
-
-pub returns-clause-value : goal.returns-clause-value
-returns-clause-value c =
-    let e : c.loop-i.i ≡ c.args.to = le_antisymm (c.loop-i.auto.i-end c.requires.ordered) c.loop-i-test.false in
-    let h = nowhere c.args.byte c.args.to c.args.list.now c.requires.in_range in
-    omega (arith, rw e at c.loop-i.invariant, h)
+pub returns-in-None-clause-value : goal.returns-in-None-clause-value
+returns-in-None-clause-value c = rw (found (goal.at.returns-in-None-clause-value c).After-first_place, c.in-None.is) (omega arith)

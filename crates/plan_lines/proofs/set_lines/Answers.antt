@@ -3,28 +3,30 @@ use mathlib.Core.Path.{◌≡◌, refl}
 use borrow.Author.Rules.{rules}
 use native.Mathlib.Numerals.{add-one}
 use native.Mathlib.Omega.{arith}
+use Rattle.std.proofs.lemmas.List.{get_or-take, length-take-le}
 use Rattle.plan_lines.specs.Lines.{set_texts}
 use Rattle.plan_lines.proofs.Lines.{set-texts-short, wrote-set}
 use Rattle.plan_lines.proofs.set_lines.Goals as goal
 
-pub loop-i-init : goal.loop-i-init
+pub loop-set-init : goal.loop-set-init
 unfolding set_texts
-loop-i-init c = (omega arith, refl, record { behind = search rules; stored = refl })
+loop-set-init c = (refl, record { behind = search rules; stored = refl })
 
 pub set_line-next-requires : goal.set_line-next-requires
 set_line-next-requires c =
-    let l = c.loop-i in
-    omega (arith, set-texts-short c.args.sets.now l.i, l.invariant.2.behind)
-
-pub loop-i-preserved : goal.loop-i-preserved
-loop-i-preserved c =
-    let l = c.loop-i in
+    let l = c.loop-set in
     let sets = c.args.sets.now in
-    (omega arith, search rules, rw (add-one l.i) (wrote-set sets l.i l.invariant.2 c.set_line-next.ensures))
+    omega (arith, length-take-le c.args.n sets c.requires.1, set-texts-short sets l.set-index, l.invariant.1.behind)
+
+pub loop-set-preserved : goal.loop-set-preserved
+loop-set-preserved c =
+    let l = c.loop-set in
+    let sets = c.args.sets.now in
+    let e = get_or-take c.args.n sets l.set-index 0 (omega (arith, length-take-le c.args.n sets c.requires.1)) in
+    (search rules, rw (add-one l.set-index) (wrote-set sets l.set-index l.invariant.1 (rw e at c.set_line-next.ensures)))
 
 pub returns : goal.returns
 returns c =
-    let l = c.loop-i in
-    let n = c.args.n in
-    let e : l.i ≡ n = omega arith in
-    rw e at l.invariant.2
+    let l = c.loop-set in
+    let e : l.set-index ≡ c.args.n = omega (arith, length-take-le c.args.n c.args.sets.now c.requires.1) in
+    rw e at l.invariant.1

@@ -4,4 +4,4 @@ use Rattle.plan_numbers.proofs.with_number.Goals as goal
 
 pub returns : goal.returns
 unfolding with_number
-returns c = rw (c.put_at.ensures, c.counted.ensures)
+returns c = rw (c.put_at.ensures, c.saturating_add.ensures)

@@ -9,4 +9,4 @@ returns-in_default c = c.gone_wrong.ensures ∙ rw (← c.number_of.ensures, c.i
 
 pub returns : goal.returns
 unfolding with_read
-returns c = c.with_number.ensures ∙ rw (← c.number_of.ensures, c.in-Of.is)
+returns c = c.with_number.ensures ∙ rw (← c.number_of.ensures, c.in-Some.is)

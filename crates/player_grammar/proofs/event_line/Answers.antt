@@ -1,59 +1,34 @@
 -- `event_line`: one of the three words, else no event.
-use Prim.Native.Nat.{ℕ, ◌≤◌}
-use mathlib.Core.Path.{◌≡◌, sym, ◌∙◌}
-use lib.ListN.{length}
-use mathlib.Core.List.{List}
-use mathlib.Core.Bool.{false}
-use Rattle.player_grammar.specs.Grammar.{event_form, starts, ask_word, leave_word}
-use Rattle.player_grammar.proofs.Words.{starts-length, behind, not_ask, not_leave}
+use mathlib.Core.Path.{refl}
+use Rattle.player_grammar.specs.Grammar.{event_form, ask_word, leave_word, move_word}
+use Rattle.player_grammar.specs.declared.Line.TheVariants.{Ask, Leave}
+use Rattle.player_grammar.proofs.Words.{starts-word}
+use Rattle.player_grammar.proofs.Lists.{read-one}
 use Rattle.player_grammar.proofs.event_line.Goals as goal
-use Rattle.player_grammar.proofs.event_line.Goals.{Then-starts_with, Then-starts_with-2, Then-starts_with-3}
 
--- what the line means where the tests so far failed
-not-ask : (line : List ℕ) → starts ask_word line ≡ false → event_form line ≡ not_ask line
+pub returns-in-Some : goal.returns-in-Some
 unfolding event_form
-not-ask line a = rw a
+returns-in-Some c =
+    let line = c.args.line.now in
+    let found = c.in-Some.ensures.cases in
+    rw (starts-word ask_word line found.0, ← found.1) (read-one Ask _ _ _ c.read_number.ensures c.map_or.ensures)
 
-not-leave : (line : List ℕ) → starts ask_word line ≡ false → starts leave_word line ≡ false → event_form line ≡ not_leave line
-not-leave line a b = not-ask line a ∙ rw b
-
--- a line that starts with a word is as long as the word
-ask-long : (c : Then-starts_with) → 4 ≤ length c.args.line.now
-ask-long c = starts-length _ _ (sym c.starts_with.ensures ∙ c.if-starts_with.true)
-
-leave-long : (c : Then-starts_with-2) → 6 ≤ length c.args.line.now
-leave-long c = starts-length _ _ (sym c.starts_with-2.ensures ∙ c.if-starts_with-2.true)
-
-move-long : (c : Then-starts_with-3) → 5 ≤ length c.args.line.now
-move-long c = starts-length _ _ (sym c.starts_with-3.ensures ∙ c.if-starts_with-3.true)
-
-pub slice_bounds-ask_line-count : goal.slice_bounds-ask_line-count
-slice_bounds-ask_line-count c = ask-long (goal.at.slice_bounds-ask_line-count c).Then-starts_with
-
-pub slice_bounds-ask_line-start : goal.slice_bounds-ask_line-start
-slice_bounds-ask_line-start c = ask-long (goal.at.slice_bounds-ask_line-start c).Then-starts_with
-
-pub returns-then-starts_with : goal.returns-then-starts_with
+pub returns-in-Some-strip_prefix : goal.returns-in-Some-strip_prefix
 unfolding event_form
-returns-then-starts_with c = c.ask_line.ensures ∙ rw (behind _ _) (sym (rw (sym c.starts_with.ensures ∙ c.if-starts_with.true)))
+returns-in-Some-strip_prefix c =
+    let line = c.args.line.now in
+    let found = c.in-Some-strip_prefix.ensures.cases in
+    rw (starts-word ask_word line c.in_default.ensures.cases, starts-word leave_word line found.0, ← found.1) (read-one Leave _ _ _ c.read_number-in-Some-strip_prefix.ensures c.map_or-in-Some-strip_prefix.ensures)
 
-pub slice_bounds-leave_line-count : goal.slice_bounds-leave_line-count
-slice_bounds-leave_line-count c = leave-long (goal.at.slice_bounds-leave_line-count c).Then-starts_with-2
-
-pub slice_bounds-leave_line-start : goal.slice_bounds-leave_line-start
-slice_bounds-leave_line-start c = leave-long (goal.at.slice_bounds-leave_line-start c).Then-starts_with-2
-
-pub returns-then-starts_with-2 : goal.returns-then-starts_with-2
-returns-then-starts_with-2 c = c.leave_line.ensures ∙ rw (behind _ _) (sym (not-ask _ (sym c.starts_with.ensures ∙ c.if-starts_with.false) ∙ rw (sym c.starts_with-2.ensures ∙ c.if-starts_with-2.true)))
-
-pub slice_bounds-move_line-count : goal.slice_bounds-move_line-count
-slice_bounds-move_line-count c = move-long (goal.at.slice_bounds-move_line-count c).Then-starts_with-3
-
-pub slice_bounds-move_line-start : goal.slice_bounds-move_line-start
-slice_bounds-move_line-start c = move-long (goal.at.slice_bounds-move_line-start c).Then-starts_with-3
-
-pub returns-then-starts_with-3 : goal.returns-then-starts_with-3
-returns-then-starts_with-3 c = c.move_line.ensures ∙ rw (behind _ _) (sym (not-leave _ (sym c.starts_with.ensures ∙ c.if-starts_with.false) (sym c.starts_with-2.ensures ∙ c.if-starts_with-2.false) ∙ rw (sym c.starts_with-3.ensures ∙ c.if-starts_with-3.true)))
+pub returns-in-Some-strip_prefix-2 : goal.returns-in-Some-strip_prefix-2
+unfolding event_form
+returns-in-Some-strip_prefix-2 c =
+    let line = c.args.line.now in
+    let found = c.in-Some-strip_prefix-2.ensures.cases in
+    rw (starts-word ask_word line c.in_default.ensures.cases, starts-word leave_word line c.in_default-strip_prefix.ensures.cases, starts-word move_word line found.0, ← found.1) c.move_line.ensures
 
 pub returns : goal.returns
-returns c = sym (not-leave _ (sym c.starts_with.ensures ∙ c.if-starts_with.false) (sym c.starts_with-2.ensures ∙ c.if-starts_with-2.false) ∙ rw (sym c.starts_with-3.ensures ∙ c.if-starts_with-3.false))
+unfolding event_form
+returns c =
+    let line = c.args.line.now in
+    rw (starts-word ask_word line c.in_default.ensures.cases, starts-word leave_word line c.in_default-strip_prefix.ensures.cases, starts-word move_word line c.in_default-strip_prefix-2.ensures.cases) refl

@@ -35,7 +35,7 @@ pub returns-in_default : goal.returns-in_default
 returns-in_default c = sym (comma-found (goal.at.returns-in_default c).After-read_number ∙ rw c.in_default.is (move-malformed _))
 
 pub returns-in_default-read_number : goal.returns-in_default-read_number
-returns-in_default-read_number c = sym (comma-found (goal.at.returns-in_default-read_number c).After-read_number ∙ rw c.in-Of.is (move-before _ _ ∙ one_number _ _ ∙ rw (← behind _ _, ← c.read_number-2.ensures, c.in_default-read_number.is)))
+returns-in_default-read_number c = sym (comma-found (goal.at.returns-in_default-read_number c).After-read_number ∙ rw c.in-Some.is (move-before _ _ ∙ one_number _ _ ∙ rw (← behind _ _, ← c.read_number-2.ensures, c.in_default-read_number.is)))
 
 pub returns : goal.returns
-returns c = sym (comma-found (goal.at.returns c).After-read_number ∙ rw c.in-Of.is (move-before _ _ ∙ one_number _ _ ∙ rw (← behind _ _, ← c.read_number-2.ensures, c.in-Of-read_number.is)))
+returns c = sym (comma-found (goal.at.returns c).After-read_number ∙ rw c.in-Some.is (move-before _ _ ∙ one_number _ _ ∙ rw (← behind _ _, ← c.read_number-2.ensures, c.in-Some-read_number.is)))

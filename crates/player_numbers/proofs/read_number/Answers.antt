@@ -1,5 +1,4 @@
 -- `read_number`: what is left to read behind the digits so far.
-use Prim.Native.Nat.{◌-◌}
 use mathlib.Core.Path.{refl, sym, ◌∙◌}
 use borrow.Author.Tests.{not-true, not-false}
 use native.Mathlib.Omega.{arith}
@@ -9,38 +8,38 @@ use Rattle.player_numbers.proofs.read_number.Goals as goal
 pub returns-then-not-no_leading_zero : goal.returns-then-not-no_leading_zero
 returns-then-not-no_leading_zero c = sym (leading-zero _ (sym c.no_leading_zero.ensures ∙ not-true _ c.if-not-no_leading_zero.true-raw))
 
-pub loop-i-init : goal.loop-i-init
-loop-i-init c = (omega arith, refl, omega arith, refl)
+pub loop-b-init : goal.loop-b-init
+loop-b-init c = (omega arith, refl)
 
 pub returns-then-not-is_digit : goal.returns-then-not-is_digit
 returns-then-not-is_digit c =
-    let l = c.loop-i in
+    let l = c.loop-b in
     let a = c.args in
     let z = sym c.no_leading_zero.ensures ∙ not-false _ c.if-not-no_leading_zero.false-raw in
     let d = sym c.is_digit.ensures ∙ not-true _ c.if-not-is_digit.true-raw in
-    sym (number-begun a.part.now z ∙ l.invariant.3 ∙ other_at a.part.now l.n l.i (omega arith) d)
+    sym (number-begun a.part.now z ∙ l.invariant.1 ∙ other_at a.part.now l.n l.b-index (omega arith) d)
 
 pub with_digit-n-requires : goal.with_digit-n-requires
 with_digit-n-requires c = (omega arith, sym c.is_digit.ensures ∙ not-false _ c.if-not-is_digit.false-raw)
 
 pub returns-then-n-gt999 : goal.returns-then-n-gt999
 returns-then-n-gt999 c =
-    let l = c.loop-i in
+    let l = c.loop-b in
     let a = c.args in
     let z = sym c.no_leading_zero.ensures ∙ not-false _ c.if-not-no_leading_zero.false-raw in
     let d = sym c.is_digit.ensures ∙ not-false _ c.if-not-is_digit.false-raw in
-    sym (number-begun a.part.now z ∙ l.invariant.3 ∙ digit_at a.part.now l.n l.i (omega arith) d ∙ too_large _ _ (omega arith))
+    sym (number-begun a.part.now z ∙ l.invariant.1 ∙ digit_at a.part.now l.n l.b-index (omega arith) d ∙ too_large _ _ (omega arith))
 
-pub loop-i-preserved : goal.loop-i-preserved
-loop-i-preserved c =
-    let l = c.loop-i in
+pub loop-b-preserved : goal.loop-b-preserved
+loop-b-preserved c =
+    let l = c.loop-b in
     let a = c.args in
     let d = sym c.is_digit.ensures ∙ not-false _ c.if-not-is_digit.false-raw in
-    (omega arith, omega arith, omega arith, l.invariant.3 ∙ rw c.with_digit-n.ensures (digit_at a.part.now l.n l.i (omega arith) d))
+    (omega arith, l.invariant.1 ∙ rw c.with_digit-n.ensures (digit_at a.part.now l.n l.b-index (omega arith) d))
 
 pub returns : goal.returns
 returns c =
-    let l = c.loop-i in
+    let l = c.loop-b in
     let a = c.args in
     let z = sym c.no_leading_zero.ensures ∙ not-false _ c.if-not-no_leading_zero.false-raw in
-    sym (number-begun a.part.now z ∙ l.invariant.3 ∙ number-ended a.part.now l.n l.i (omega arith) (omega arith))
+    sym (number-begun a.part.now z ∙ l.invariant.1 ∙ number-ended a.part.now l.n l.b-index (omega arith) (omega arith))
