@@ -10,17 +10,9 @@ ghost use Rattle.save_fields.specs.Values.{value_of};
 ghost use Rattle.save_entries.specs.Entries.{entries, row_from};
 
 use rig::Rig;
-use rig_members::{lowest_member, members_within, without_member};
+use rig_members::each_member;
 use rig_reads::is_member;
 use save_fields::{Numbers, Value};
-
-// One turn of the three walks below: for j, a member of the set, n goes to a place.
-fn put_number(members: u64, j: u64, numbers: &mut Numbers, place: usize, n: u64)
-    requires { (member members j ≡ true) × (place < site_limit) }
-    ensures { numbers.new ≡ set numbers.old place n }
-{
-    numbers[place] = n;
-}
 
 // The entries of a row at the members of a set, ascending.
 pub fn entries_value(set: u64, row: &Numbers) -> Value
@@ -28,30 +20,24 @@ pub fn entries_value(set: u64, row: &Numbers) -> Value
 {
     let mut numbers = [0; Rig::SITES];
     let mut count = 0;
-    let mut left = members_within(Rig::SITES as u64, set);
-    while left != 0 {
-        let j = lowest_member(left);
-        put_number(set, j, &mut numbers, count, row[(j - 1) as usize]);
+    for j in each_member(Rig::SITES as u64, set) {
+        numbers[count] = row[(j - 1) as usize];
         count = count + 1;
-        left = without_member(left, j);
     }
     Value { numbers, count }
 }
+
+// A row that has at each site the site's number.
+const SITE_NUMBERS: Numbers = [
+    1, 2, 3, 4, 5, 6, 7, 8, 9, 10, 11, 12, 13, 14, 15, 16, 17, 18, 19, 20, 21, 22, 23, 24, 25, 26,
+    27, 28, 29, 30, 31,
+];
 
 // The members of a set, ascending.
 pub fn members_value(set: u64) -> Value
     ensures { result ≡ value_of (members_up_to set site_limit) }
 {
-    let mut numbers = [0; Rig::SITES];
-    let mut count = 0;
-    let mut left = members_within(Rig::SITES as u64, set);
-    while left != 0 {
-        let j = lowest_member(left);
-        put_number(set, j, &mut numbers, count, j);
-        count = count + 1;
-        left = without_member(left, j);
-    }
-    Value { numbers, count }
+    entries_value(set, &SITE_NUMBERS)
 }
 
 // The row whose entries at the members of a set are given, ascending; 0 at every other site.
@@ -60,12 +46,9 @@ pub fn row_from(set: u64, ns: &Numbers) -> Numbers
 {
     let mut row = [0; Rig::SITES];
     let mut next = 0;
-    let mut left = members_within(Rig::SITES as u64, set);
-    while left != 0 {
-        let j = lowest_member(left);
-        put_number(set, j, &mut row, (j - 1) as usize, ns[next]);
+    for j in each_member(Rig::SITES as u64, set) {
+        row[(j - 1) as usize] = ns[next];
         next = next + 1;
-        left = without_member(left, j);
     }
     row
 }
@@ -83,8 +66,8 @@ pub fn askers(sets: &Numbers, j: u64) -> u64
     ensures { result ≡ set_of (λ k. has_member sets.now k j) site_limit }
 {
     let mut set = 0;
-    for i in 0..Rig::SITES {
-        set = with_site(set, i as u64, is_member(sets[i], j));
+    for (i, s) in sets.iter().enumerate() {
+        set = with_site(set, i as u64, is_member(*s, j));
     }
     set
 }

@@ -5,7 +5,7 @@ use mathlib.Core.Path.{◌≡◌, ap, ◌∙◌}
 use native.Mathlib.Numerals.{add-one}
 use native.Mathlib.Omega.{arith}
 use lib.ListN.{length, take, drop, get_or, length-append, take-append-drop}
-use lib.Seq.{take-suc, take-take}
+use lib.Seq.{take-suc}
 use Rattle.player_bytes.specs.Wrote.{Wrote}
 use Rattle.player_bytes.proofs.Stores.{wrote-more}
 use Rattle.plan_lines.specs.Lines.{list_text}
@@ -25,19 +25,18 @@ list-longer (n ∷ []) [] = omega arith
 list-longer (n ∷ []) (m ∷ ms) = simp length-append (omega arith)
 list-longer (n ∷ k ∷ ns) ms = let l = list-longer (k ∷ ns) ms in simp length-append (omega arith)
 
-list-part : (ns : List ℕ) (i n : ℕ) → i ≤ n → length (list_text (take i ns)) ≤ length (list_text (take n ns))
-list-part ns i n h = rw (take-append-drop i (take n ns), take-take i n ns h) at (list-longer (take i (take n ns)) (drop i (take n ns)))
+list-part : (ns : List ℕ) (i : ℕ) → length (list_text (take i ns)) ≤ length (list_text ns)
+list-part ns i = rw (take-append-drop i ns) at (list-longer (take i ns) (drop i ns))
 
 -- one number more
 module _ (ns : List ℕ) (i next first : ℕ) (h : i < length ns) where
   list-turn : next ≡ first + length (list_text (take i ns)) → list_text (take (suc i) ns) ≡ list_text (take i ns) ++ added next first (get_or ns i 0)
   list-turn e = rw (take-suc ns i 0 h) (list-more (take i ns) next first (get_or ns i 0) e)
 
-  -- there is room for it where there is room for the first n of them
-  pub number_fits : (n : ℕ) → i < n → next ≡ first + length (list_text (take i ns))
-      → next + length (added next first (get_or ns i 0)) ≤ first + length (list_text (take n ns))
-  number_fits n l e =
-      omega (arith, list-part ns (suc i) n l, ap length (list-turn e) ∙ length-append (list_text (take i ns)) (added next first (get_or ns i 0)))
+  -- there is room for it where there is room for all of them
+  pub number_fits : next ≡ first + length (list_text (take i ns)) → next + length (added next first (get_or ns i 0)) ≤ first + length (list_text ns)
+  number_fits e =
+      omega (arith, list-part ns (suc i), ap length (list-turn e) ∙ length-append (list_text (take i ns)) (added next first (get_or ns i 0)))
 
   pub wrote-number :
       {r : ℕ} {page mid after : List ℕ}

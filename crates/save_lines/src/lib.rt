@@ -27,8 +27,8 @@ pub fn put_line(page: &mut [u8], at: usize, word: &[u8], numbers: &[u64], count:
 {
     let first = put_word(page, at, word);
     let mut next = first;
-    for i in 0..count {
-        next = put_number(page, first, next, numbers[i]);
+    for n in &numbers[..count] {
+        next = put_number(page, first, next, *n);
     }
     put_word(page, next, b"\n")
 }

@@ -8,9 +8,7 @@ ghost use Rattle.save_numbers.specs.Places.{line_end, next_line};
 
 use player_numbers::is_digit;
 use rig::Rig;
-
-// A line has a number for each site at most.
-pub type Numbers = [u64; Rig::SITES];
+use save_fields::Numbers;
 
 // An inner call: the place of the first byte 10 from place `at` on, or the text's length.
 pub fn end_of_line(text: &[u8], at: usize) -> usize
@@ -64,12 +62,11 @@ pub fn numbers_in(line: &[u8]) -> Numbers
 {
     let mut numbers = [0; Rig::SITES];
     let mut i = 0;
-    for j in 0..line.len() {
-        let b = line[j];
-        if b == COMMA {
+    for b in line {
+        if *b == COMMA {
             i = i + 1;
         } else {
-            put_digit(&mut numbers, i, b);
+            put_digit(&mut numbers, i, *b);
         }
     }
     numbers

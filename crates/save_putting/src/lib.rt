@@ -66,9 +66,8 @@ pub fn put_site(page: &mut [u8], at: usize, rig: Rig, tables: &Tables, i: usize)
     ensures { Puts (site_lines rig tables.now (suc i)) at page.old page.new result }
 {
     let site = rig.sites[i];
-    let mode = site.mode;
     let clock = put_one(page, at, b"clock=", site.clock);
-    let next = put_value(page, clock, b"mode=", mode_value(mode));
+    let next = put_value(page, clock, b"mode=", mode_value(site.mode));
     put_rows(page, next, rig.sets[i], tables, i)
 }
 

@@ -21,8 +21,8 @@ fn put_sets(page: &mut [u8], at: usize, sets: &[u64], n: usize) -> usize
     ensures { Puts (each_up_to (set_lines sets.now) n) at page.old page.new result }
 {
     let mut next = at;
-    for i in 0..n {
-        next = put_set(page, next, sets[i]);
+    for set in &sets[..n] {
+        next = put_set(page, next, *set);
     }
     next
 }
@@ -57,8 +57,8 @@ fn put_messages(page: &mut [u8], at: usize, list: &[Row], count: usize) -> usize
     ensures { Puts (each_up_to (message_lines list.now) count) at page.old page.new result }
 {
     let mut next = at;
-    for i in 0..count {
-        next = put_message(page, next, list[i]);
+    for row in &list[..count] {
+        next = put_message(page, next, *row);
     }
     next
 }

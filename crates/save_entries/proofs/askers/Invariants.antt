@@ -1,12 +1,7 @@
-use Prim.Native.Nat.{◌≤◌, ◌-◌}
 use mathlib.Core.Path.{◌≡◌}
-use Rattle.rig.specs.Limits.{site_limit}
 use Rattle.model.specs.Sets.{set_of}
 use Rattle.model.specs.State.{has_member}
 use Rattle.save_entries.proofs.askers.Given as goal
 
 abbrev pub invariant-loop-i : goal.invariant-loop-i
-invariant-loop-i l = (l.i ≤ site_limit) × (l.set ≡ set_of (λ k. has_member l.sets k l.j) l.i)
-
-abbrev pub decreases-loop-i : goal.decreases-loop-i
-decreases-loop-i l = site_limit - l.i
+invariant-loop-i l = l.set ≡ set_of (λ k. has_member l.sets k l.j) l.i

@@ -1,6 +1,5 @@
 -- `put_arbiters`: the lines of the arbiters so far.
-use mathlib.Core.Path.{◌≡◌, refl}
-use borrow.Author.Rules.{rules}
+use mathlib.Core.Path.{◌≡◌}
 use native.Mathlib.Numerals.{add-one}
 use native.Mathlib.Omega.{arith}
 use Rattle.save_putting.specs.Puts.{arbiter_lines}
@@ -8,24 +7,24 @@ use Rattle.save_writing.proofs.Each.{each_none, each_fits, each_more}
 use Rattle.save_writing.proofs.put_arbiters.Goals as goal
 
 pub loop-i-init : goal.loop-i-init
-loop-i-init c = (omega arith, refl, each_none _)
+loop-i-init c = each_none _
 
 pub put_arbiter-next-requires : goal.put_arbiter-next-requires
 put_arbiter-next-requires c =
     let l = c.loop-i in
     let a = c.args in
     let f = arbiter_lines a.rig a.tables.now in
-    (omega arith, each_fits f l.i a.n (omega arith) c.requires.1 l.invariant.2)
+    (omega arith, each_fits f l.i a.n (omega arith) c.requires.1 l.invariant)
 
 pub loop-i-preserved : goal.loop-i-preserved
 loop-i-preserved c =
     let l = c.loop-i in
     let a = c.args in
     let f = arbiter_lines a.rig a.tables.now in
-    (omega arith, search rules, rw (add-one l.i) (each_more f l.i l.invariant.2 c.put_arbiter-next.ensures))
+    rw (add-one l.i) (each_more f l.i l.invariant c.put_arbiter-next.ensures)
 
 pub returns : goal.returns
 returns c =
     let l = c.loop-i in
     let e : l.i ≡ c.args.n = omega arith in
-    rw e at l.invariant.2
+    rw e at l.invariant

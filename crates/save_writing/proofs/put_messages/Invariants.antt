@@ -1,13 +1,7 @@
-use Prim.Native.Nat.{◌≤◌, ◌-◌}
-use mathlib.Core.Path.{◌≡◌}
-use lib.ListN.{length}
 use Rattle.save_text.specs.Text.{each_up_to}
 use Rattle.save_putting.specs.Puts.{Puts}
 use Rattle.save_writing.specs.Lines.{message_lines}
 use Rattle.save_writing.proofs.put_messages.Given as goal
 
-abbrev pub invariant-loop-i : goal.invariant-loop-i
-invariant-loop-i l = (l.i ≤ l.count) × (length l.page ≡ length l.initial.page) × Puts (each_up_to (message_lines l.list) l.i) l.at l.initial.page l.page l.next
-
-abbrev pub decreases-loop-i : goal.decreases-loop-i
-decreases-loop-i l = l.count - l.i
+abbrev pub invariant-loop-row : goal.invariant-loop-row
+invariant-loop-row l = Puts (each_up_to (message_lines l.list) l.row-index) l.at l.initial.page l.page l.next

@@ -1,32 +1,37 @@
 -- `put_sets`: the lines of the sets so far.
-use mathlib.Core.Path.{◌≡◌, refl}
-use borrow.Author.Rules.{rules}
+use mathlib.Core.Path.{◌≡◌}
 use native.Mathlib.Numerals.{add-one}
 use native.Mathlib.Omega.{arith}
+use lib.Seq.{get_or-take, length-take-le}
+use Prim.Native.Nat.{◌<◌}
 use Rattle.model.specs.Tables.{at}
 use Rattle.save_writing.specs.Lines.{set_lines}
 use Rattle.save_writing.proofs.Each.{each_none, each_fits, each_more}
 use Rattle.save_writing.proofs.put_sets.Goals as goal
 
-pub loop-i-init : goal.loop-i-init
-loop-i-init c = (omega arith, refl, each_none _)
+pub loop-set-init : goal.loop-set-init
+loop-set-init c = each_none _
 
 pub put_set-next-requires : goal.put_set-next-requires
 unfolding at
 put_set-next-requires c =
-    let l = c.loop-i in
+    let i = c.loop-set.set-index in
     let a = c.args in
-    each_fits (set_lines a.sets.now) l.i a.n (omega arith) c.requires.1 l.invariant.2
+    let sets = a.sets.now in
+    let h : i < a.n = omega (arith, length-take-le a.n sets) in
+    rw (← get_or-take a.n sets i 0 h) at (each_fits (set_lines sets) i a.n h c.requires.1 c.loop-set.invariant)
 
-pub loop-i-preserved : goal.loop-i-preserved
+pub loop-set-preserved : goal.loop-set-preserved
 unfolding at
-loop-i-preserved c =
-    let l = c.loop-i in
+loop-set-preserved c =
+    let i = c.loop-set.set-index in
     let a = c.args in
-    (omega arith, search rules, rw (add-one l.i) (each_more (set_lines a.sets.now) l.i l.invariant.2 c.put_set-next.ensures))
+    let sets = a.sets.now in
+    let h : i < a.n = omega (arith, length-take-le a.n sets) in
+    rw (add-one i) (each_more (set_lines sets) i c.loop-set.invariant (rw (get_or-take a.n sets i 0 h) at c.put_set-next.ensures))
 
 pub returns : goal.returns
 returns c =
-    let l = c.loop-i in
-    let e : l.i ≡ c.args.n = omega arith in
-    rw e at l.invariant.2
+    let a = c.args in
+    let e : c.loop-set.set-index ≡ a.n = omega (arith, length-take-le a.n a.sets.now) in
+    rw e at c.loop-set.invariant
