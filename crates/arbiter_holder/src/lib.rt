@@ -11,41 +11,32 @@ use arbiter_queue::queued_at;
 use rig::{Arbiter, Desk, Message};
 
 // Whether the message is from the holder, with its grant number.
+#[tactic(auto, unfolding(model::specs::Arbiter::from_holder))]
 pub fn from_holder(d: Desk, k: u64, n: u64) -> bool
     ensures { result ≡ from_holder d k n }
 {
-    if n != d.arbiter.grant {
-        return false;
-    }
-    k == d.arbiter.holder
+    n == d.arbiter.grant && k == d.arbiter.holder
 }
 
 // An inner call: whether a release came before the arbiter knew that k holds the permission.
+#[tactic(auto, unfolding(model::specs::Arbiter::is_early))]
 pub fn is_early(d: Desk, k: u64, x: u64, n: u64) -> bool
     requires { SiteNumber k × (d.arbiter.grant + 1 < 2 ^ 64) }
     ensures { result ≡ is_early d k x n }
 {
-    if n != d.arbiter.grant + 1 {
-        return false;
-    }
-    if x != 0 {
-        return false;
-    }
-    queued_at(&d.queued, k) != 0
+    n == d.arbiter.grant + 1 && (x == 0 && queued_at(&d.queued, k) != 0)
 }
 
 // The permission is held by k, with grant number g; it asked with sequence number n.
 pub fn held_by(d: Desk, g: u64, k: u64, n: u64) -> Desk
     ensures { result ≡ held_by d g k n d.queued }
 {
-    let mut u = d;
-    let a = Arbiter {
+    let arbiter = Arbiter {
         grant: g,
         holder: k,
         seq: n,
     };
-    u.arbiter = a;
-    u
+    Desk { arbiter, ..d }
 }
 
 // A transfer to the holder that names k, and an inquire to the holder: each carries the holder's grant number.

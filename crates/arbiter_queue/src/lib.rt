@@ -10,16 +10,15 @@ ghost use Rattle.model.specs.Arbiter.{with_queued};
 use rig::{Arbiter, Desk, Rig};
 
 // Whether the first of two asks comes before the other.
+#[tactic(auto, unfolding(model::specs::Priority::comes_before))]
 fn comes_before(seq: u64, site: u64, other_seq: u64, other_site: u64) -> bool
     ensures { result ≡ comes_before (key seq site) (key other_seq other_site) }
 {
-    if seq == other_seq {
-        return site < other_site;
-    }
-    seq < other_seq
+    (seq, site) < (other_seq, other_site)
 }
 
 // An inner call: the sequence number queued of site k, 0 none.
+#[tactic(auto, using(model::proofs::Tables::at_read))]
 pub fn queued_at(queued: &[u64; Rig::SITES], k: u64) -> u64
     requires { SiteNumber k }
     ensures { result ≡ at 0 queued.now k }
@@ -28,6 +27,7 @@ pub fn queued_at(queued: &[u64; Rig::SITES], k: u64) -> u64
 }
 
 // The head, once site k is looked at: h is the head of the sites below k, 0 none.
+#[tactic(auto, unfolding(model::specs::Priority::head_with))]
 fn head_with(queued: &[u64; Rig::SITES], k: u64, h: u64) -> u64
     requires { SiteNumber k × (h ≤ site_limit) }
     ensures { result ≡ head_with queued.now k h }
@@ -51,8 +51,8 @@ pub fn head(queued: &[u64; Rig::SITES], size: u64) -> u64
     ensures { result ≡ head queued.now size }
 {
     let mut h = 0;
-    for i in 0..size {
-        h = head_with(queued, i + 1, h);
+    for k in 1..=size {
+        h = head_with(queued, k, h);
     }
     h
 }

@@ -31,13 +31,16 @@ fn store_in(tables: &mut [Table], s: u64, d: Desk)
     ensures { RowsStored s d tables.old tables.new }
 {
     let i = (s - 1) as usize;
-    let held = d.held;
+    let Desk {
+        held,
+        heir,
+        inquired,
+        queued,
+        ..
+    } = d;
     tables[Rig::HELD][i] = held;
-    let heir = d.heir;
     tables[Rig::HEIR][i] = heir;
-    let inquired = d.inquired;
     tables[Rig::INQUIRED][i] = inquired;
-    let queued = d.queued;
     tables[Rig::QUEUED][i] = queued;
 }
 

@@ -12,7 +12,7 @@ ghost use Rattle.site_asks.specs.Needs.{AskFits};
 use event_effects::Acted;
 use list_rows::Row;
 use rig::{Desk, Message, Mode, Site};
-use rig_members::{lowest_member, members_within, without_member};
+use rig_members::each_member;
 use site_entries::cleared;
 
 // One turn of the ask: the request to j, a member of the set.
@@ -28,12 +28,9 @@ fn request_members(d: Desk, seq: u64, out: &mut [Row], count: usize) -> usize
     requires { AskFits d count out.old }
     ensures { Appends (requests d seq d.size) count out.old out.new result }
 {
-    let mut left = members_within(d.size, d.members);
     let mut n = count;
-    while left != 0 {
-        let j = lowest_member(left);
+    for j in each_member(d.size, d.members) {
         n = request_member(d.number, d.members, seq, j, out, n);
-        left = without_member(left, j);
     }
     n
 }
@@ -43,8 +40,7 @@ pub fn ask(d: Desk, out: &mut [Row], count: usize) -> Acted
     requires { AskFits d count out.old }
     ensures { CarriesOut (asked d) count out.old out.new result }
 {
-    let s = d.site;
-    let seq = s.clock + 1;
+    let seq = d.site.clock + 1;
     let sent = request_members(d, seq, out, count);
     let site = Site {
         mode: Mode::Waiting { seq, failed: false },

@@ -12,44 +12,43 @@ use rig::{Desk, Mode, Rig, Site};
 pub fn cleared(d: Desk, site: Site) -> Desk
     ensures { result ≡ with_site (without_entries d) site }
 {
-    let mut u = d;
-    u.site = site;
-    u.held = [0; Rig::SITES];
-    u.heir = [0; Rig::SITES];
-    u.inquired = [0; Rig::SITES];
-    u
+    let none = [0; Rig::SITES];
+    Desk {
+        site,
+        held: none,
+        heir: none,
+        inquired: none,
+        ..d
+    }
 }
 
 // The failed mark is set.
 pub fn failed_set(d: Desk) -> Desk
     ensures { result ≡ failed_set d }
 {
-    let s = d.site;
-    let site = Site {
-        mode: Mode::Waiting {
-            seq: rig_modes::seq_in(s),
-            failed: true,
-        },
-        clock: s.clock,
+    let mode = Mode::Waiting {
+        seq: rig_modes::seq_in(d.site),
+        failed: true,
     };
-    let mut e = d;
-    e.site = site;
-    e
+    Desk {
+        site: Site { mode, ..d.site },
+        ..d
+    }
 }
 
 // The site is inside; its remembered inquires are cleared.
 pub fn enter(d: Desk) -> Desk
     ensures { result ≡ entered d }
 {
-    let s = d.site;
     let site = Site {
         mode: Mode::Inside,
-        clock: s.clock,
+        ..d.site
     };
-    let mut e = d;
-    e.site = site;
-    e.inquired = [0; Rig::SITES];
-    e
+    Desk {
+        site,
+        inquired: [0; Rig::SITES],
+        ..d
+    }
 }
 
 // A remembered inquire's number q once number n is held: one of another number is forgotten.
@@ -65,10 +64,9 @@ pub fn take(d: Desk, j: u64, n: u64) -> Desk
     ensures { result ≡ taken d j n }
 {
     let i = (j - 1) as usize;
-    let q = kept_inquire(d.inquired[i], n);
     let mut e = d;
     e.held[i] = n;
-    e.inquired[i] = q;
+    e.inquired[i] = kept_inquire(d.inquired[i], n);
     e
 }
 

@@ -11,17 +11,11 @@ use list_rows::Row;
 use rig::Desk;
 
 // Whether a fail counts: the site waits, and the fail's number is its sequence number, or 0 in a fail of an earlier version.
+#[tactic(auto, unfolding(model::specs::Site::fail_counts))]
 fn fail_counts(d: Desk, number: u64) -> bool
     ensures { result ≡ fail_counts d number }
 {
-    let s = d.site;
-    if !rig_modes::is_waiting(s) {
-        return false;
-    }
-    if number == 0 {
-        return true;
-    }
-    number == rig_modes::seq_in(s)
+    rig_modes::is_waiting(d.site) && (number == rig_modes::seq_in(d.site) || number == 0)
 }
 
 // An inner call: a fail with this number.

@@ -24,8 +24,7 @@ fn yield_or_remember(d: Desk, j: u64, n: u64, out: &mut [Row], count: usize) -> 
     if n != g {
         return Acted { desk: d, count };
     }
-    let s = d.site;
-    if rig_modes::has_failed(s) {
+    if rig_modes::has_failed(d.site) {
         return site_yields::yield_member(d, j, out, count);
     }
     Acted {
@@ -39,8 +38,7 @@ pub fn on_inquire(d: Desk, j: u64, n: u64, out: &mut [Row], count: usize) -> Act
     requires { SiteNumber j × (count < length out.old) }
     ensures { CarriesOut (on_inquire d j n) count out.old out.new result }
 {
-    let s = d.site;
-    if !rig_modes::is_waiting(s) {
+    if !rig_modes::is_waiting(d.site) {
         return Acted { desk: d, count };
     }
     yield_or_remember(d, j, n, out, count)

@@ -2,7 +2,8 @@
 #![tactic(auto)]
 
 ghost use Rattle.std.specs.Prelude.{◌≤◌, ◌+◌, true, ◌≡◌, length};
-ghost use Rattle.rig.specs.Limits.{number_limit};
+ghost use Rattle.rig.specs.Limits.{number_limit, SiteNumber};
+ghost use Rattle.model.specs.Desk.{held_for, heir_for};
 ghost use Rattle.model.specs.Leave.{hand_on, hand_ons, left};
 ghost use Rattle.model.specs.Sets.{member};
 ghost use Rattle.list_rows.specs.Rows.{Appends};
@@ -13,7 +14,7 @@ ghost use Rattle.site_leaves.specs.Turns.{hand_on_if};
 use event_effects::Acted;
 use list_rows::Row;
 use rig::{Desk, Message, Mode, Site};
-use rig_members::{lowest_member, members_within, without_member};
+use rig_members::each_member;
 use site_entries::cleared;
 
 // What site `number` sends on for arbiter j, held with number g, with heir k (0 none).
@@ -29,22 +30,16 @@ fn hand_on(number: u64, j: u64, k: u64, g: u64, out: &mut [Row], count: usize) -
 }
 
 // One turn of the leave: what is sent on for j, a member of the set, if it is held.
-fn hand_on_member(
-    number: u64,
-    set: u64,
-    j: u64,
-    k: u64,
-    g: u64,
-    out: &mut [Row],
-    count: usize,
-) -> usize
-    requires { (member set j ≡ true) × (g ≤ number_limit) × (count + 2 ≤ length out.old) }
-    ensures { Appends (hand_on_if number j k g) count out.old out.new result }
+fn hand_on_member(d: &Desk, j: u64, out: &mut [Row], count: usize) -> usize
+    requires { (member d.now.members j ≡ true) × SiteNumber j × (held_for d.now j ≤ number_limit) × (count + 2 ≤ length out.old) }
+    ensures { Appends (hand_on_if d.now.number j (heir_for d.now j) (held_for d.now j)) count out.old out.new result }
 {
+    let i = (j - 1) as usize;
+    let g = d.held[i];
     if g == 0 {
         return count;
     }
-    hand_on(number, j, k, g, out, count)
+    hand_on(d.number, j, d.heir[i], g, out, count)
 }
 
 // What is sent on for each member held, ascending.
@@ -52,15 +47,9 @@ fn hand_on_members(d: Desk, out: &mut [Row], count: usize) -> usize
     requires { LeaveFits d count out.old }
     ensures { Appends (hand_ons d d.size) count out.old out.new result }
 {
-    let mut remaining = members_within(d.size, d.members);
     let mut n = count;
-    while remaining != 0 {
-        let j = lowest_member(remaining);
-        let i = (j - 1) as usize;
-        let k = d.heir[i];
-        let g = d.held[i];
-        n = hand_on_member(d.number, d.members, j, k, g, out, n);
-        remaining = without_member(remaining, j);
+    for j in each_member(d.size, d.members) {
+        n = hand_on_member(&d, j, out, n);
     }
     n
 }
@@ -71,10 +60,9 @@ pub fn leave(d: Desk, out: &mut [Row], count: usize) -> Acted
     ensures { CarriesOut (left d) count out.old out.new result }
 {
     let sent = hand_on_members(d, out, count);
-    let s = d.site;
     let site = Site {
         mode: Mode::Rest,
-        clock: s.clock,
+        ..d.site
     };
     Acted {
         desk: cleared(d, site),

@@ -1,8 +1,8 @@
 // What a site does with a reply.
 #![tactic(auto)]
 
-ghost use Rattle.std.specs.Prelude.{◌<◌, ◌≤◌, length};
-ghost use Rattle.model.specs.Site.{entered_or_yielded, on_reply};
+ghost use Rattle.std.specs.Prelude.{◌≡◌, ◌<◌, ◌≤◌, length};
+ghost use Rattle.model.specs.Site.{entered_or_yielded, takes, on_reply};
 ghost use Rattle.event_effects.specs.Effects.{CarriesOut};
 ghost use Rattle.rig.specs.Limits.{site_limit, SiteNumber};
 
@@ -21,8 +21,7 @@ fn enter_or_yield(d: Desk, j: u64, out: &mut [Row], count: usize) -> Acted
             count,
         };
     }
-    let s = d.site;
-    if !rig_modes::has_failed(s) {
+    if !rig_modes::has_failed(d.site) {
         return Acted { desk: d, count };
     }
     let i = (j - 1) as usize;
@@ -33,21 +32,22 @@ fn enter_or_yield(d: Desk, j: u64, out: &mut [Row], count: usize) -> Acted
     site_yields::yield_member(d, j, out, count)
 }
 
+// Whether the site takes a reply about j: it waits, and j is a member that it does not hold.
+#[tactic(auto, using(model::proofs::Tables::at_read), unfolding(model::specs::Site::takes))]
+fn takes(d: Desk, j: u64) -> bool
+    requires { SiteNumber j }
+    ensures { result ≡ takes d j }
+{
+    rig_modes::is_waiting(d.site)
+        && (rig_reads::is_member(d.members, j) && d.held[(j - 1) as usize] == 0)
+}
+
 // An inner call: a reply about j, with number n.
 pub fn on_reply(d: Desk, j: u64, n: u64, out: &mut [Row], count: usize) -> Acted
     requires { SiteNumber j × (d.size ≤ site_limit) × (count < length out.old) }
     ensures { CarriesOut (on_reply d j n) count out.old out.new result }
 {
-    let s = d.site;
-    if !rig_modes::is_waiting(s) {
-        return Acted { desk: d, count };
-    }
-    if !rig_reads::is_member(d.members, j) {
-        return Acted { desk: d, count };
-    }
-    let i = (j - 1) as usize;
-    let g = d.held[i];
-    if g != 0 {
+    if !takes(d, j) {
         return Acted { desk: d, count };
     }
     enter_or_yield(site_entries::take(d, j, n), j, out, count)

@@ -9,7 +9,7 @@ ghost use Rattle.rig.specs.Limits.{site_limit, SiteNumber};
 use event_effects::Acted;
 use list_rows::Row;
 use rig::{Desk, Message};
-use rig_members::{lowest_member, members_within, without_member};
+use rig_members::each_member;
 use site_due_yields::yield_if;
 
 // An inner call: the site yields arbiter j.
@@ -18,8 +18,7 @@ pub fn yield_member(d: Desk, j: u64, out: &mut [Row], count: usize) -> Acted
     ensures { CarriesOut (yielded d j) count out.old out.new result }
 {
     let i = (j - 1) as usize;
-    let g = d.held[i];
-    let n = list_rows::append(out, count, Message::yielding(d.number, j, g));
+    let n = list_rows::append(out, count, Message::yielding(d.number, j, d.held[i]));
     let mut e = site_entries::failed_set(d);
     e.held[i] = 0;
     e.heir[i] = 0;
@@ -35,10 +34,8 @@ pub fn yield_members(d: Desk, out: &mut [Row], count: usize) -> Acted
     let mut held = d.held;
     let mut heir = d.heir;
     let mut inquired = d.inquired;
-    let mut left = members_within(d.size, d.members);
     let mut n = count;
-    while left != 0 {
-        let j = lowest_member(left);
+    for j in each_member(d.size, d.members) {
         n = yield_if(
             d.number,
             d.members,
@@ -49,11 +46,14 @@ pub fn yield_members(d: Desk, out: &mut [Row], count: usize) -> Acted
             out,
             n,
         );
-        left = without_member(left, j);
     }
-    let mut e = site_entries::failed_set(d);
-    e.held = held;
-    e.heir = heir;
-    e.inquired = inquired;
-    Acted { desk: e, count: n }
+    Acted {
+        desk: Desk {
+            held,
+            heir,
+            inquired,
+            ..site_entries::failed_set(d)
+        },
+        count: n,
+    }
 }

@@ -1,26 +1,30 @@
--- `head`: the head of the sites passed so far.
-use Prim.Native.Nat.{◌-◌}
-use mathlib.Core.Path.{refl, ◌∙◌}
-use native.Mathlib.Numerals.{add-one}
+-- `head`: the head of the sites below k.
+use Prim.Native.Nat.{◌-◌, ◌+◌}
+use mathlib.Core.Path.{◌≡◌, refl, ◌∙◌}
 use native.Mathlib.Omega.{arith}
-use native.Mathlib.Nat.{le_antisymm}
 use Rattle.model.specs.Priority.{head}
 use Rattle.model.proofs.Heads.{head-within}
+use Rattle.arbiter_queue.proofs.Heads.{head-turn}
 use Rattle.arbiter_queue.proofs.head.Goals as goal
 
-pub loop-i-init : goal.loop-i-init
+pub loop-k-init : goal.loop-k-init
 unfolding head
-loop-i-init c = (omega arith, refl)
+loop-k-init c = (omega arith, refl)
 
 pub head_with-h-requires : goal.head_with-h-requires
 head_with-h-requires c =
-    let l = c.loop-i in
-    let w = head-within c.args.queued.now l.i in
+    let l = c.loop-k in
+    let w = head-within c.args.queued.now (l.k - 1) in
     (record { low = omega arith; high = omega arith }, omega arith)
 
-pub loop-i-preserved : goal.loop-i-preserved
-unfolding head
-loop-i-preserved c = (omega arith, c.head_with-h.ensures ∙ rw (c.loop-i.invariant.1, add-one))
+pub loop-k-preserved : goal.loop-k-preserved
+loop-k-preserved c =
+    let l = c.loop-k in
+    let e : l.k + 1 - 1 ≡ l.k = omega arith in
+    (omega arith, rw e (c.head_with-h.ensures ∙ head-turn c.args.queued.now l.k (omega arith) l.invariant.1))
 
-pub returns : goal.returns
-returns c = rw (le_antisymm c.loop-i.invariant.0 c.loop-i-test.false) at c.loop-i.invariant.1
+pub returns-2 : goal.returns-2
+returns-2 c =
+    let l = c.loop-k in
+    let last : l.k ≡ c.args.size = omega arith in
+    rw last at (c.head_with-h.ensures ∙ head-turn c.args.queued.now l.k (omega arith) l.invariant.1)

@@ -8,4 +8,4 @@ unfolding taken
 returns c =
     let a = c.args in
     let low = c.requires.low in
-    rw (put-write a.d.held _ _ low, put-write a.d.inquired _ _ low, at_read 0 a.d.inquired _ low, c.kept_inquire-q.ensures)
+    rw (put-write a.d.held _ _ low, put-write a.d.inquired _ _ low, at_read 0 a.d.inquired _ low, c.kept_inquire.ensures)
