@@ -25,12 +25,17 @@ pub fn word(rt: &impl Env, i: usize, buf: &mut [u8]) -> usize
 // How many words the program was started with, its own name among them.
 pub fn word_count(rt: &impl Env) -> usize {
     let mut buf = [0u8; 1];
-    for i in 0..usize::MAX {
-        if let Err(FillError::NotPresent) = rt.arg(i, &mut buf) {
-            return i;
-        }
-    }
-    usize::MAX
+    (0..usize::MAX)
+        .find(|i| matches!(rt.arg(*i, &mut buf), Err(FillError::NotPresent)))
+        .unwrap_or(usize::MAX)
+}
+
+// Writes a space and word i.
+pub fn print_word(rt: &impl Env, i: usize, to: &mut impl Write) -> io::Result<()> {
+    let mut bytes = [0u8; PATH];
+    let length = word(rt, i, &mut bytes);
+    to.write_all(b" ")?;
+    to.write_all(&bytes[..length])
 }
 
 // Opens the file of that name to read it. std opens none whose name is not UTF-8.
@@ -41,7 +46,8 @@ pub fn open_named<R: Files>(rt: &R, name: &[u8]) -> io::Result<R::File> {
     }
 }
 
-// Reads until the buffer is full or the input ends; answers how many bytes now stand at its start.
+// Reads until the buffer is full or the input ends; answers how many bytes now stand at its start. std's `read_exact` fails where the input ends first, and
+// `read_to_end` needs memory.
 pub fn read_full(from: &mut impl Read, buf: &mut [u8]) -> io::Result<usize>
     ensures { IfOk result (λ n. IsPrefixLen n buf.new) }
 {
