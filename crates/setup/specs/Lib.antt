@@ -1,1 +1,1 @@
-pub mod Answer
+-- No definitions of its own: those of setup are in `model`.

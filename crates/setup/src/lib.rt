@@ -1,21 +1,15 @@
 // Setup: judges the request sets of a rig, and makes the fresh rig of sets that pass.
 #![tactic(auto)]
 
-ghost use Rattle.std.specs.Prelude.{◌≡◌, ◌≤◌, length};
+ghost use Rattle.std.specs.Prelude.{◌≡◌, ◌≤◌, length, IfOk};
 ghost use Rattle.rig.specs.Limits.{site_limit};
-ghost use Rattle.model.specs.Setup.{kept_sets, resting_rig};
+ghost use Rattle.refusals.specs.Numbers.{code_in};
+ghost use Rattle.model.specs.Setup.{setup_code, kept_sets, resting_rig, fresh_rig};
 ghost use Rattle.model.specs.Run.{StartsRun};
-ghost use Rattle.setup.specs.Answer.{setup_answer};
 
+use refusals::Refusal;
 use rig::{Arbiter, Mode, Rig, Site};
 use setup_faults::judge;
-
-// The code of document 01, 0 where the sets pass, and the fresh rig; a refused setup answers a rig without sites.
-#[derive(Clone, Copy)]
-pub struct Answer {
-    pub code: u64,
-    pub rig: Rig,
-}
 
 // The sets of sites 1 to `size`, and 0 past them.
 fn kept(size: u64, sets: &[u64]) -> [u64; Rig::SITES]
@@ -52,19 +46,11 @@ pub fn resting(size: u64, sets: [u64; Rig::SITES]) -> Rig
     }
 }
 
-// Where the code is 0, the rig starts a run of these sets.
-pub fn setup(size: u64, sets: &[u64]) -> Answer
-    ensures { (result ≡ setup_answer size sets.now) × (result.code ≡ 0 → StartsRun size sets.now result.rig) }
+// The fresh rig, which starts a run of these sets, or why they are turned down.
+pub fn setup(size: u64, sets: &[u64]) -> Result<Rig, Refusal>
+    ensures determined { (code_in result ≡ setup_code size sets.now) × IfOk result (λ rig. rig ≡ fresh_rig size sets.now) }
+    ensures starts { IfOk result (λ rig. StartsRun size sets.now rig) }
 {
-    let code = judge(size, sets);
-    if code != 0 {
-        return Answer {
-            code,
-            rig: resting(0, [0; Rig::SITES]),
-        };
-    }
-    Answer {
-        code: 0,
-        rig: resting(size, kept(size, sets)),
-    }
+    judge(size, sets)?;
+    Ok(resting(size, kept(size, sets)))
 }

@@ -4,9 +4,11 @@
 ghost use Rattle.std.specs.Prelude.{◌≡◌, ◌≤◌, length};
 ghost use Rattle.rig.specs.Limits.{site_limit};
 ghost use Rattle.model.specs.Setup.{each_code, meeting_code, setup_code};
+ghost use Rattle.refusals.specs.Numbers.{code_in};
 ghost use Rattle.setup_rules.specs.Rules.{MayCompare};
 ghost use Rattle.setup_faults.specs.Faults.{first_breaking, site_found, fault_line};
 
+use refusals::Refusal;
 use rig::Rig;
 use setup_rules::{Rule, keeps};
 
@@ -20,52 +22,50 @@ fn first_breaking(rule: Rule, size: u64, sets: &[u64]) -> Option<u64>
         .map(|k| k + 1)
 }
 
-// The codes 13, 1 and 2: what is asked of N, and of each set by itself.
-fn judge_each(size: u64, sets: &[u64]) -> u64
-    ensures { result ≡ each_code size sets.now }
+// The refusals 13, 1 and 2: what is asked of N, and of each set by itself.
+fn judge_each(size: u64, sets: &[u64]) -> Result<(), Refusal>
+    ensures { code_in result ≡ each_code size sets.now }
 {
     if sets.len() != Rig::SITES {
-        return 13;
+        return Err(Refusal::WrongLength);
     }
     if size == 0 {
-        return 1;
+        return Err(Refusal::SiteCount);
     }
     if size > Rig::SITES as u64 {
-        return 1;
+        return Err(Refusal::SiteCount);
     }
     if first_breaking(Rule::Names, size, sets).is_some() {
-        return 2;
+        return Err(Refusal::FaultySet);
     }
-    0
+    Ok(())
 }
 
-// The codes 13, 1, 2 and 3 alone: whether sets meet as they must. For sets of any length, any size and any bits.
-pub fn judge_meeting(size: u64, sets: &[u64]) -> u64
-    ensures { result ≡ meeting_code size sets.now }
+// The refusals 13, 1, 2 and 3 alone: whether sets meet as they must. For sets of any length, any size and any bits.
+pub fn judge_meeting(size: u64, sets: &[u64]) -> Result<(), Refusal>
+    ensures { code_in result ≡ meeting_code size sets.now }
 {
-    let code = judge_each(size, sets);
-    if code != 0 {
-        return code;
-    }
+    judge_each(size, sets)?;
     if first_breaking(Rule::Meets, size, sets).is_some() {
-        return 3;
+        return Err(Refusal::SetsApart);
     }
-    0
+    Ok(())
 }
 
-// Setup's code: 13, 1, 2, 3, then 17. Sets that pass are compared once; of others it is then asked whether 3 or 17 is due.
-pub fn judge(size: u64, sets: &[u64]) -> u64
-    ensures { result ≡ setup_code size sets.now }
+// Setup's refusal: 13, 1, 2, 3, then 17. Sets that pass are compared once; of others it is then asked whether 3 or 17 is due.
+pub fn judge(size: u64, sets: &[u64]) -> Result<(), Refusal>
+    ensures { code_in result ≡ setup_code size sets.now }
 {
-    let code = judge_each(size, sets);
-    if code != 0 {
-        return code;
-    }
+    judge_each(size, sets)?;
     if first_breaking(Rule::Fits, size, sets).is_none() {
-        return 0;
+        return Ok(());
     }
     let apart = first_breaking(Rule::Meets, size, sets);
-    if apart.is_some() { 3 } else { 17 }
+    Err(if apart.is_some() {
+        Refusal::SetsApart
+    } else {
+        Refusal::NestedSets
+    })
 }
 
 // An inner call: the line of the player's text that holds the set for which setup answers 2, 3 or 17.

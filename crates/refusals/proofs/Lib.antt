@@ -1,0 +1,2 @@
+-- No reason has the number 0.
+pub mod Refusals
