@@ -17,30 +17,19 @@ use site_replies::on_reply;
 use site_transfers::on_transfer;
 
 // An inner call: the message m comes to its receiver's desk. Messages go to `out`, behind the first `count` rows.
+#[tactic(auto, unfolding(model::specs::Deliver::delivered))]
 pub fn deliver(d: Desk, m: Message, out: &mut [Row], count: usize) -> Acted
     requires { Fits d m count out.old }
     ensures { CarriesOut (delivered d m) count out.old out.new result }
 {
-    if m.kind == Message::REQUEST {
-        return on_request(d, out, count, m.from, m.number);
+    match m.kind {
+        Message::REQUEST => on_request(d, out, count, m.from, m.number),
+        Message::REPLY => on_reply(d, m.about, m.number, out, count),
+        Message::RELEASE => on_release(d, out, count, m.from, m.about, m.number),
+        Message::INQUIRE => on_inquire(d, m.from, m.number, out, count),
+        Message::FAIL => on_fail(d, m.number, out, count),
+        Message::YIELD => on_yield(d, out, count, m.from, m.number),
+        Message::TRANSFER => on_transfer(d, m.from, m.about, m.number, out, count),
+        _ => Acted { desk: d, count },
     }
-    if m.kind == Message::REPLY {
-        return on_reply(d, m.about, m.number, out, count);
-    }
-    if m.kind == Message::RELEASE {
-        return on_release(d, out, count, m.from, m.about, m.number);
-    }
-    if m.kind == Message::INQUIRE {
-        return on_inquire(d, m.from, m.number, out, count);
-    }
-    if m.kind == Message::FAIL {
-        return on_fail(d, m.number, out, count);
-    }
-    if m.kind == Message::YIELD {
-        return on_yield(d, out, count, m.from, m.number);
-    }
-    if m.kind == Message::TRANSFER {
-        return on_transfer(d, m.from, m.about, m.number, out, count);
-    }
-    Acted { desk: d, count }
 }

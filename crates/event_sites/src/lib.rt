@@ -10,13 +10,13 @@ use rig::Event;
 use rig_reads::is_site;
 
 // The site at which an event happens: the asker, the leaver or the receiver.
+#[tactic(auto, unfolding(model::specs::Event::actor))]
 pub fn actor(e: Event) -> u64
     ensures { result ≡ actor e }
 {
     match e {
-        Event::Ask(s) => s,
-        Event::Leave(s) => s,
-        Event::Deliver(_, b) => b,
+        Event::Ask(s) | Event::Leave(s) => s,
+        Event::Deliver(_, receiver) => receiver,
     }
 }
 
@@ -25,9 +25,8 @@ pub fn sender(e: Event) -> u64
     ensures { result ≡ sender_of e }
 {
     match e {
-        Event::Ask(s) => 0,
-        Event::Leave(s) => 0,
-        Event::Deliver(a, b) => a,
+        Event::Deliver(a, _) => a,
+        _ => 0,
     }
 }
 
@@ -36,9 +35,8 @@ pub fn receiver(e: Event) -> u64
     ensures { result ≡ receiver_of e }
 {
     match e {
-        Event::Ask(s) => 0,
-        Event::Leave(s) => 0,
-        Event::Deliver(a, b) => b,
+        Event::Deliver(_, b) => b,
+        _ => 0,
     }
 }
 
@@ -65,16 +63,12 @@ pub fn counted_on(accepted: u64, code: u64) -> u64
 }
 
 // Whether each site that an event names is one of 1 to `size`.
+#[tactic(auto, unfolding(model::specs::Event::sites_named))]
 pub fn sites_named(size: u64, e: Event) -> bool
     ensures { result ≡ sites_named size e }
 {
     match e {
-        Event::Ask(s) => is_site(size, s),
-        Event::Leave(s) => is_site(size, s),
-        Event::Deliver(a, b) => if is_site(size, a) {
-            is_site(size, b)
-        } else {
-            false
-        },
+        Event::Ask(s) | Event::Leave(s) => is_site(size, s),
+        Event::Deliver(a, b) => is_site(size, a) && is_site(size, b),
     }
 }

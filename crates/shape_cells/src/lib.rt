@@ -9,20 +9,14 @@ use rig::Rig;
 use rig_reads::{both_tied, is_number, tied};
 
 // The entry n in row a and column b: 0, an heir, or a number, of a site and an arbiter in its set.
+#[tactic(auto, using(crate::proofs::Cells::cell_tests))]
 pub fn cell_shaped(which: usize, sets: &[u64; Rig::SITES], a: u64, b: u64, n: u64) -> bool
     ensures { result ≡ cell_shaped which sets.now a b n }
 {
-    if n == 0 {
-        return true;
-    }
-    if which == Rig::HEIR {
-        return both_tied(sets, a, n, b);
-    }
-    if !is_number(n) {
-        return false;
-    }
-    if which == Rig::QUEUED {
-        return tied(sets, b, a);
-    }
-    tied(sets, a, b)
+    n == 0
+        || match which {
+            Rig::HEIR => both_tied(sets, a, n, b),
+            Rig::QUEUED => is_number(n) && tied(sets, b, a),
+            _ => is_number(n) && tied(sets, a, b),
+        }
 }

@@ -8,6 +8,7 @@ use rig::{Message, Rig};
 use rig_reads::{both_tied, is_given, is_number, is_site, tied};
 
 // A number of at least 1; in a fail also 0.
+#[tactic(auto, unfolding(model::specs::Shape::number_shaped))]
 fn number_shaped(m: Message) -> bool
     ensures { result ≡ number_shaped m }
 {
@@ -18,34 +19,27 @@ fn number_shaped(m: Message) -> bool
 }
 
 // `about` is 0, and site k is tied to arbiter j.
+#[tactic(auto, unfolding(model::specs::Shape::plain_shaped))]
 fn plain_shaped(sets: &[u64; Rig::SITES], about: u64, k: u64, j: u64) -> bool
     ensures { result ≡ plain_shaped sets.now about k j }
 {
-    if about != 0 {
-        return false;
-    }
-    tied(sets, k, j)
+    about == 0 && tied(sets, k, j)
 }
 
 // Site k is tied to arbiter j, and so is the heir where there is one.
+#[tactic(auto, unfolding(model::specs::Shape::release_shaped))]
 fn release_shaped(sets: &[u64; Rig::SITES], k: u64, j: u64, heir: u64) -> bool
     ensures { result ≡ release_shaped sets.now k j heir }
 {
-    if !tied(sets, k, j) {
-        return false;
-    }
-    if heir == 0 {
-        return true;
-    }
-    tied(sets, heir, j)
+    tied(sets, k, j) && (heir == 0 || tied(sets, heir, j))
 }
 
 // "`about` is the arbiter in a reply, the heir in a transfer, the heir or 0 in a release, otherwise 0", and each site is tied to its arbiter.
+#[tactic(auto, unfolding(model::specs::Shape::about_shaped))]
 fn about_shaped(sets: &[u64; Rig::SITES], m: Message) -> bool
     ensures { result ≡ about_shaped sets.now m }
 {
-    let kind = m.kind;
-    match kind {
+    match m.kind {
         Message::REQUEST => plain_shaped(sets, m.about, m.from, m.to),
         Message::REPLY => tied(sets, m.to, m.about),
         Message::RELEASE => release_shaped(sets, m.from, m.to, m.about),
@@ -58,17 +52,9 @@ fn about_shaped(sets: &[u64; Rig::SITES], m: Message) -> bool
 }
 
 // A message's fields are in range and fit its kind.
+#[tactic(auto, unfolding(model::specs::Shape::message_shaped))]
 pub fn message_shaped(size: u64, sets: &[u64; Rig::SITES], m: Message) -> bool
     ensures { result ≡ message_shaped size sets.now m }
 {
-    if !is_site(size, m.from) {
-        return false;
-    }
-    if !is_site(size, m.to) {
-        return false;
-    }
-    if !number_shaped(m) {
-        return false;
-    }
-    about_shaped(sets, m)
+    is_site(size, m.from) && is_site(size, m.to) && number_shaped(m) && about_shaped(sets, m)
 }

@@ -2,22 +2,18 @@
 #![tactic(auto)]
 
 ghost use Rattle.std.specs.Prelude.{◌≡◌};
-ghost use Rattle.model.specs.Shape.{rig_shaped};
+ghost use Rattle.rig.specs.Limits.{site_limit};
+ghost use Rattle.basics.specs.Helpers.{all};
+ghost use Rattle.model.specs.Shape.{place_shaped, rig_shaped};
 
 use rig::Rig;
 use setup_faults::judge;
 use shape_places::place_shaped;
 
-// Sets such as setup passes, at most 1,000,000 accepted events, and every place.
-pub fn rig_shaped(rig: Rig) -> bool
-    ensures { result ≡ rig_shaped rig }
+// Every place. One index goes through the sets, the sites and the arbiters.
+fn places_shaped(rig: &Rig) -> bool
+    ensures { result ≡ all (place_shaped rig.now) site_limit }
 {
-    if judge(rig.size, &rig.sets) != 0 {
-        return false;
-    }
-    if rig.accepted > Rig::EVENTS {
-        return false;
-    }
     for i in 0..Rig::SITES {
         let set = rig.sets[i];
         let site = rig.sites[i];
@@ -27,4 +23,12 @@ pub fn rig_shaped(rig: Rig) -> bool
         }
     }
     true
+}
+
+// Sets such as setup passes, at most 1,000,000 accepted events, and every place.
+#[tactic(auto, unfolding(model::specs::Shape::rig_shaped))]
+pub fn rig_shaped(rig: Rig) -> bool
+    ensures { result ≡ rig_shaped rig }
+{
+    judge(rig.size, &rig.sets) == 0 && rig.accepted <= Rig::EVENTS && places_shaped(&rig)
 }

@@ -1,2 +1,0 @@
--- Which rule a kind of message has.
-pub mod ByKind
