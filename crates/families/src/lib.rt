@@ -1,11 +1,11 @@
 // The families of request sets: the grid, the billiard, the plane and the levels by their parameters, and the votes.
 #![tactic(auto)]
 
-ghost use Rattle.std.specs.Prelude.{◌≡◌, true, length};
+ghost use Rattle.std.specs.Prelude.{◌≡◌, ℕ, Bool, length};
 ghost use Rattle.rig.specs.Limits.{site_limit};
 ghost use Rattle.model.specs.Setup.{setup_code};
-ghost use Rattle.family_rules.specs.Family.{listed, sets_of};
-ghost use Rattle.family_votes.specs.Votes.{sets_by_votes, VotesFit};
+ghost use Rattle.family_sets.specs.Rule.{sets_by};
+ghost use Rattle.families.specs.Filling.{AnswersSets};
 ghost use Rattle.families.specs.Made.{made, filled, billiard_set};
 ghost use Rattle.families.specs.ByVotes.{votes_code, filled_by_votes, VotesKept};
 
@@ -32,7 +32,7 @@ pub fn generate(family: Family, sets: &mut [u64]) -> Made
     if !is_listed(family) {
         return Made { code: 12, size: 0 };
     }
-    fill(family, sets);
+    fill(|n| set_at(family, n), sets);
     Made {
         code: 0,
         size: size_of(family),
@@ -52,12 +52,14 @@ pub fn billiard_set(q: u64, n: u64) -> u64
     0
 }
 
-fn fill(family: Family, sets: &mut [u64])
-    requires { (listed family ≡ true) × (length sets.old ≡ site_limit) }
-    ensures { sets.new ≡ sets_of family }
+// Writes what a call answers of each site into a buffer with an entry for each site.
+fn fill<F: Fn(u64) -> u64>(set_of: F, sets: &mut [u64])
+    requires callable { F.IsAlwaysCallable set_of }
+    requires long { length sets.old ≡ site_limit }
+    ensures { (takes : ℕ → ℕ → Bool) (size : ℕ) → AnswersSets (F.post set_of) takes size → sets.new ≡ sets_by takes size }
 {
-    for i in 0..Rig::SITES {
-        sets[i] = set_at(family, i as u64 + 1);
+    for (i, set) in sets.iter_mut().enumerate() {
+        *set = set_of(i as u64 + 1);
     }
 }
 
@@ -70,7 +72,8 @@ pub fn generate_by_votes(n: u64, votes: &[u64], sets: &mut [u64]) -> u64
     if code != 0 {
         return code;
     }
-    fill_by_votes(n, votes, sets);
+    let sum = vote_sum(n, votes);
+    fill(|site| set_by_votes(n, votes, sum, site), sets);
     0
 }
 
@@ -90,14 +93,4 @@ fn votes_code(n: u64, votes: &[u64], entries: usize) -> u64
         return 16;
     }
     0
-}
-
-fn fill_by_votes(n: u64, votes: &[u64], sets: &mut [u64])
-    requires { VotesFit n votes.now × (length sets.old ≡ site_limit) }
-    ensures { sets.new ≡ sets_by_votes n votes.now }
-{
-    let sum = vote_sum(n, votes);
-    for k in 0..Rig::SITES {
-        sets[k] = set_by_votes(n, votes, sum, k as u64 + 1);
-    }
 }

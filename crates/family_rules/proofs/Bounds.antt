@@ -1,23 +1,15 @@
--- Bounds of the numbers that the code computes.
-use Prim.Native.Nat.{ℕ, ◌+◌, ◌*◌, ◌%◌, ◌^◌, ◌≤◌, ◌<◌}
+-- A bound of the numbers that the code computes.
+use Prim.Native.Nat.{◌+◌, ◌≤◌}
 use mathlib.Core.Path.{◌≡◌}
 use mathlib.Core.Bool.{true}
-use native.Mathlib.Nat.{mul-le-mul, one-mul, mod-eq_of_lt}
+use native.Mathlib.Nat.{mul-le-mul}
 use native.Mathlib.Omega.{arith}
-use lib.Pow.{pow-lt}
 use Rattle.family_rules.specs.declared.Family.{Family}
 use Rattle.family_rules.specs.declared.Family.TheVariants.{Grid, Billiard, Plane, Levels}
 use Rattle.family_rules.specs.Family.{computed, size_of}
 use Rattle.family_rules.proofs.Parameters.{side-bounds, p-bounds, sides}
 use Rattle.family_billiard.specs.Billiard.{billiard_size}
 use Rattle.family_billiard.proofs.Locations.{size-most}
-
--- a bit of one of the sites of the largest family, the billiard of q = 9, as the code shifts it
-pub bit-most : (m : ℕ) → m < billiard_size 9 → 2 ^ m < 2 ^ billiard_size 9
-bit-most m h = pow-lt h
-
-pub shifted : (m : ℕ) → m < billiard_size 9 → 1 * 2 ^ m % 2 ^ 64 ≡ 2 ^ m
-shifted m h = let l = bit-most m h in rw one-mul (mod-eq_of_lt (omega arith))
 
 -- every family that the code has sets for
 pub sites-most : (f : Family) → computed f ≡ true → size_of f ≤ billiard_size 9

@@ -1,2 +1,3 @@
 -- The four families of request sets that have parameters.
 pub mod Family
+pub mod Text

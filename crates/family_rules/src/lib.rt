@@ -1,14 +1,16 @@
 // A family of request sets by its rule: the grid, the billiard, the plane and the levels.
 #![tactic(auto)]
 
-ghost use Rattle.std.specs.Prelude.{◌≡◌, true, cond, ◌+◌, ◌^◌, ◌≤◌, ◌<◌};
-ghost use Rattle.family_billiard.specs.Billiard.{billiard_size};
+ghost use Rattle.std.specs.Prelude.{◌≡◌, true, ◌≤◌, Some};
 ghost use Rattle.family_rules.specs.Family.{listed, computed, size_of, width_of, entry, has_site, set_at, EquallyLarge, FamilyAccepted};
+ghost use Rattle.family_rules.specs.Text.{family_text};
 
 use family_billiard::billiard_entry;
 use family_grid::grid_entry;
 use family_levels::{levels_entry, sides_listed};
 use family_plane_table::plane_entry;
+use rig_members::with_member;
+use std::fmt;
 
 // A family with its parameters: the grid's side s, the billiard's q, the plane's p, the rows, bays and levels of the levels.
 #[derive(Clone, Copy)]
@@ -17,6 +19,20 @@ pub enum Family {
     Billiard(u64),
     Plane(u64),
     Levels(u64, u64, u64),
+}
+
+// As `grid s=2`.
+impl fmt::Display for Family {
+    ghost output = { λ family. Some (family_text family) };
+
+    fn fmt<W: fmt::Write>(&self, f: &mut fmt::Formatter<W>) -> fmt::Result {
+        match *self {
+            Family::Grid(s) => write!(f, "grid s={s}"),
+            Family::Billiard(q) => write!(f, "billiard q={q}"),
+            Family::Plane(p) => write!(f, "plane p={p}"),
+            Family::Levels(a, b, c) => write!(f, "levels a={a} b={b} c={c}"),
+        }
+    }
 }
 
 // Whether the parameters are listed.
@@ -36,13 +52,11 @@ pub fn set_at(family: Family, n: u64) -> u64
     requires { computed family ≡ true }
     ensures { result ≡ set_at family n }
 {
-    if n < 1 {
-        return 0;
+    if 1 <= n && n <= size_of(family) {
+        site_set(family, n)
+    } else {
+        0
     }
-    if n <= size_of(family) {
-        return site_set(family, n);
-    }
-    0
 }
 
 // The set of a site, a bit for each member.
@@ -53,30 +67,18 @@ fn site_set(family: Family, n: u64) -> u64
     let size = size_of(family);
     let mut set = 0;
     for m in 0..size {
-        set = with_site(set, m, has_site(family, n, m + 1));
+        if has_site(family, n, m + 1) {
+            set = with_member(set, m + 1);
+        }
     }
     set
-}
-
-// With site m + 1 where it is a member.
-fn with_site(set: u64, m: u64, present: bool) -> u64
-    requires { (m < billiard_size 9) × (set < 2 ^ m) }
-    ensures { result ≡ set + cond present (2 ^ m) 0 }
-{
-    if present { set + (1 << m) } else { set }
 }
 
 fn has_site(family: Family, n: u64, m: u64) -> bool
     requires { (computed family ≡ true) × (1 ≤ n) × (n ≤ size_of family) }
     ensures { result ≡ has_site family n m }
 {
-    let width = width_of(family);
-    for k in 0..width {
-        if m == entry(family, n, k + 1) {
-            return true;
-        }
-    }
-    false
+    (0..width_of(family)).any(|k| m == entry(family, n, k + 1))
 }
 
 // An inner call: the number of sites.

@@ -10,8 +10,11 @@ ghost use Rattle.model.specs.Sets.{member};
 
 use family_rules::Family;
 use rig::Rig;
-use rig_members::{lowest_member, without_member};
+use rig_members::each_member;
 use std::io;
+
+// The most sites of a family that is printed: those of the billiard of q = 9.
+const SITES: u64 = 40;
 
 fn main(rt: HostRuntime) -> io::Result<()> {
     print_grids(&rt)?;
@@ -22,49 +25,66 @@ fn main(rt: HostRuntime) -> io::Result<()> {
 }
 
 fn print_grids(rt: &impl Print) -> io::Result<()> {
-    print_family(rt, Family::Grid(1))?;
-    print_family(rt, Family::Grid(2))?;
-    print_family(rt, Family::Grid(3))?;
-    print_family(rt, Family::Grid(4))?;
-    print_family(rt, Family::Grid(5))
+    for s in 1..=5 {
+        print_family(rt, Family::Grid(s))?;
+    }
+    Ok(())
 }
 
 fn print_billiards(rt: &impl Print) -> io::Result<()> {
-    print_family(rt, Family::Billiard(3))?;
-    print_family(rt, Family::Billiard(5))?;
-    print_family(rt, Family::Billiard(7))?;
-    print_site(rt, Family::Billiard(9), 11, families::billiard_set(9, 11))?;
-    print_site(rt, Family::Billiard(9), 34, families::billiard_set(9, 34))
+    for q in [3, 5, 7] {
+        print_family(rt, Family::Billiard(q))?;
+    }
+    for site in [11, 34] {
+        print_site(
+            rt,
+            Family::Billiard(9),
+            site,
+            families::billiard_set(9, site),
+        )?;
+    }
+    Ok(())
 }
 
 fn print_planes(rt: &impl Print) -> io::Result<()> {
-    print_family(rt, Family::Plane(2))?;
-    print_family(rt, Family::Plane(3))?;
-    print_family(rt, Family::Plane(5))
+    for p in [2, 3, 5] {
+        print_family(rt, Family::Plane(p))?;
+    }
+    Ok(())
 }
 
 fn print_levels(rt: &impl Print) -> io::Result<()> {
-    print_family(rt, Family::Levels(1, 1, 1))?;
-    print_family(rt, Family::Levels(2, 2, 2))?;
-    print_family(rt, Family::Levels(3, 2, 5))?;
-    print_family(rt, Family::Levels(1, 31, 1))?;
-    print_family(rt, Family::Levels(31, 1, 1))?;
-    print_family(rt, Family::Levels(1, 1, 31))
+    for family in [
+        Family::Levels(1, 1, 1),
+        Family::Levels(2, 2, 2),
+        Family::Levels(3, 2, 5),
+        Family::Levels(1, 31, 1),
+        Family::Levels(31, 1, 1),
+        Family::Levels(1, 1, 31),
+    ] {
+        print_family(rt, family)?;
+    }
+    Ok(())
 }
 
 // Parameters that are not listed, and buffers of 30 entries.
 fn print_refusals(rt: &impl Print) -> io::Result<()> {
-    print_family(rt, Family::Grid(0))?;
-    print_family(rt, Family::Grid(6))?;
-    print_family(rt, Family::Billiard(9))?;
-    print_family(rt, Family::Plane(4))?;
-    print_family(rt, Family::Levels(0, 1, 1))?;
-    print_family(rt, Family::Levels(4, 4, 2))?;
-    print_family(rt, Family::Levels(4294967296, 4294967296, 1))?;
-    print_family(rt, Family::Levels(3, 12297829382473034411, 1))?;
-    print_short(rt, Family::Grid(2))?;
-    print_short(rt, Family::Plane(4))?;
-    print_short(rt, Family::Levels(4, 4, 2))
+    for family in [
+        Family::Grid(0),
+        Family::Grid(6),
+        Family::Billiard(9),
+        Family::Plane(4),
+        Family::Levels(0, 1, 1),
+        Family::Levels(4, 4, 2),
+        Family::Levels(4294967296, 4294967296, 1),
+        Family::Levels(3, 12297829382473034411, 1),
+    ] {
+        print_family(rt, family)?;
+    }
+    for family in [Family::Grid(2), Family::Plane(4), Family::Levels(4, 4, 2)] {
+        print_short(rt, family)?;
+    }
+    Ok(())
 }
 
 fn print_family(rt: &impl Print, family: Family) -> io::Result<()> {
@@ -89,30 +109,25 @@ fn print_sets(
     size: u64,
     sets: &[u64; Rig::SITES],
 ) -> io::Result<()> {
-    for i in 0..Rig::SITES {
-        if (i as u64) < size {
-            print_site(rt, family, i as u64 + 1, sets[i])?;
-        }
+    for (site, set) in (1..=size).zip(sets.iter()) {
+        print_site(rt, family, site, *set)?;
     }
     Ok(())
 }
 
 // As `grid s=2 site=1: 1,2,3`.
 fn print_site(rt: &impl Print, family: Family, site: u64, set: u64) -> io::Result<()> {
-    print_name(rt, family)?;
-    print_field(rt, " site=", site)?;
-    print!(rt; ": ")?;
+    print!(rt; "{family} site={site}: ")?;
     print_members(rt, set)?;
     println!(rt;)
 }
 
 // The members, ascending, with commas between them.
 fn print_members(rt: &impl Print, set: u64) -> io::Result<()> {
-    let mut left = set;
-    while left != 0 {
-        let j = lowest_member(left);
-        print_member(rt, set, j, left != set)?;
-        left = without_member(left, j);
+    let mut after_another = false;
+    for j in each_member(SITES, set) {
+        print_member(rt, set, j, after_another)?;
+        after_another = true;
     }
     Ok(())
 }
@@ -129,27 +144,5 @@ fn print_member(rt: &impl Print, set: u64, j: u64, after_another: bool) -> io::R
 
 // As `grid s=0 entries=31 code=12`.
 fn print_code(rt: &impl Print, family: Family, entries: u64, code: u64) -> io::Result<()> {
-    print_name(rt, family)?;
-    print_field(rt, " entries=", entries)?;
-    print_field(rt, " code=", code)?;
-    println!(rt;)
-}
-
-fn print_name(rt: &impl Print, family: Family) -> io::Result<()> {
-    match family {
-        Family::Grid(s) => print_field(rt, "grid s=", s),
-        Family::Billiard(q) => print_field(rt, "billiard q=", q),
-        Family::Plane(p) => print_field(rt, "plane p=", p),
-        Family::Levels(a, b, c) => print_sides(rt, a, b, c),
-    }
-}
-
-fn print_sides(rt: &impl Print, a: u64, b: u64, c: u64) -> io::Result<()> {
-    print_field(rt, "levels a=", a)?;
-    print_field(rt, " b=", b)?;
-    print_field(rt, " c=", c)
-}
-
-fn print_field(rt: &impl Print, name: &str, n: u64) -> io::Result<()> {
-    print!(rt; "{name}{n}")
+    println!(rt; "{family} entries={entries} code={code}")
 }

@@ -5,9 +5,13 @@ use mathlib.Core.Path.{◌≡◌, refl, sym, ap, ◌∙◌, subst}
 use native.Mathlib.Nat.{mod-lt, mod-eq_of_lt, mul_assoc, one-mul, add-mul, pow-succ', zero-div, div-eq_of_lt}
 use native.Mathlib.Omega.{arith}
 use lib.Count.{count_trailing_zeros}
+use lib.Bits.{bit_and, bit_or}
 use lib.Dec.{eqb, ltb}
-use lib.Pow.{pow_pos, pow_mono, field, mod-mod-pow}
-use borrow.Author.Tests.{ltb-true, ltb-false}
+use Rattle.std.proofs.lemmas.Nat.{and_le_r, or_disjoint}
+use Rattle.std.proofs.lemmas.Nat.Bits.{bit_at_and, bit_at-pow_other}
+use Rattle.model.proofs.Sets.{no_bits}
+use lib.Pow.{pow_pos, pow_mono, pow-lt, field, mod-mod-pow}
+use borrow.Author.Tests.{eqb-true, eqb-false, ltb-true, ltb-false}
 use Rattle.basics.proofs.Basics.{by_bool, clash, lowest-none, lowest-found}
 use Rattle.model.specs.Sets.{member}
 use Rattle.rig_members.specs.Walk.{word_bits, within, lowest_member, without_member}
@@ -60,6 +64,23 @@ member-past n set j h f =
     by_bool (member set j)
     (λ e. let high = (member-placed n set j h e).high in absurd (omega arith))
     (λ e. e)
+
+-- a site that is no member has no bit there, so that its bit is added where it is set
+no-bit : (set i : ℕ) → member set (suc i) ≡ false → bit_and set (2 ^ i) ≡ 0
+unfolding member
+no-bit set i e =
+    let one = eqb-false (set / 2 ^ i % 2) 1 e in
+    let most = and_le_r set (2 ^ i) in
+    let up = pow-lt {i = i} {j = suc i} (omega arith) in
+    no_bits (bit_and set (2 ^ i)) (suc i) (omega arith)
+    (λ k l.
+    by_bool (eqb k i)
+    (λ t. rw (eqb-true k i t, bit_at_and set (2 ^ i) i) (omega arith))
+    (λ t. let z = bit_at-pow_other i k (eqb-false k i t) in rw (bit_at_and set (2 ^ i) k) (omega arith)))
+
+pub or-new : (set j : ℕ) → 1 ≤ j → member set j ≡ false → bit_or set (2 ^ (j - 1)) ≡ set + 2 ^ (j - 1)
+or-new set zero l e = absurd (omega arith)
+or-new set (suc i) l e = let w : suc i - 1 ≡ i = omega arith in rw w (or_disjoint set (2 ^ i) (no-bit set i e))
 
 -- The members among the sites 1 to n.
 

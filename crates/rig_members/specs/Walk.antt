@@ -1,5 +1,5 @@
 -- Request 2.4: a walk of a set's members, "from one member to the next".
-use Rattle.std.specs.Prelude.{ℕ, zero, suc, Option, MatchOption, ◌<◌, ◌-◌, ◌%◌, ◌^◌, ◌≤◌, cond, List, [], ◌∷◌, ◌++◌, ◌≡◌, eqb, take}
+use Rattle.std.specs.Prelude.{ℕ, zero, suc, Option, MatchOption, ◌<◌, ◌+◌, ◌-◌, ◌%◌, ◌^◌, ◌≤◌, cond, List, [], ◌∷◌, ◌++◌, ◌≡◌, eqb, take}
 use Rattle.basics.specs.Helpers.{count, lowest}
 use Rattle.model.specs.Sets.{member}
 
@@ -18,6 +18,10 @@ lowest_member set = lowest (member set) word_bits
 -- the set without site j, where j is one of its members
 unfoldable pub without_member : ℕ → ℕ → ℕ
 without_member set j = set - 2 ^ (j - 1)
+
+-- the set with site j, where j is none of its members
+unfoldable pub with_member : ℕ → ℕ → ℕ
+with_member set j = set + 2 ^ (j - 1)
 
 -- the members of a set among the sites 1 to n, ascending
 unfoldable pub members_up_to : ℕ → ℕ → List ℕ

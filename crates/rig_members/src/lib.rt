@@ -1,10 +1,10 @@
 // The members of a set from one to the next, ascending: the lowest one that is left, and what is left without it.
 #![tactic(auto)]
 
-ghost use Rattle.std.specs.Prelude.{◌≡◌, true, ◌<◌};
+ghost use Rattle.std.specs.Prelude.{◌≡◌, true, false, ◌<◌, ◌≤◌};
 ghost use Rattle.std.specs.Iterator.{at_most};
 ghost use Rattle.model.specs.Sets.{member};
-ghost use Rattle.rig_members.specs.Walk.{word_bits, within, lowest_member, without_member, members_in, VisitsLowest, WalkVisits};
+ghost use Rattle.rig_members.specs.Walk.{word_bits, within, lowest_member, without_member, with_member, members_in, VisitsLowest, WalkVisits};
 
 // An inner call: where a walk of the members among the sites 1 to n begins.
 pub fn members_within(n: u64, set: u64) -> u64
@@ -28,6 +28,14 @@ pub fn without_member(set: u64, j: u64) -> u64
     ensures { result ≡ without_member set j }
 {
     set - (1 << (j - 1))
+}
+
+// An inner call: the set with site j, which is none of its members.
+pub fn with_member(set: u64, j: u64) -> u64
+    requires { (1 ≤ j) × (j ≤ word_bits) × (member set j ≡ false) }
+    ensures { result ≡ with_member set j }
+{
+    set | (1 << (j - 1))
 }
 
 // The members of a set that a walk has still to visit.

@@ -45,21 +45,12 @@ pub fn resume(text: &[u8]) -> Resumption
 fn all_granted(rig: Rig) -> bool
     ensures { result ≡ all_granted rig }
 {
-    for i in 0..Rig::SITES {
-        let arbiter = rig.arbiters[i];
-        if !has_granted(arbiter) {
-            return false;
-        }
-    }
-    true
+    rig.arbiters.iter().all(|arbiter| has_granted(*arbiter))
 }
 
 // An arbiter without a holder, or one that has granted.
 fn has_granted(a: Arbiter) -> bool
     ensures { result ≡ has_granted a }
 {
-    if a.holder == 0 {
-        return true;
-    }
-    a.grant >= 1
+    a.holder == 0 || a.grant >= 1
 }

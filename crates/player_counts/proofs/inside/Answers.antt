@@ -1,39 +1,33 @@
--- `inside`: none of the sites passed so far is inside.
-use Prim.Native.Nat.{min}
-use mathlib.Core.Path.{◌≡◌, sym, ◌∙◌}
-use native.Mathlib.Omega.{arith}
-use borrow.Author.Rules.{rules}
-use lib.ListN.{length}
-use Rattle.rig.specs.Limits.{site_limit}
-use Rattle.basics.specs.Helpers.{lowest}
-use Rattle.basics.proofs.Basics.{lowest-more, lowest-found}
-use Rattle.model.specs.Tables.{at}
+-- `inside`: the first site that is inside.
+use mathlib.Core.Path.{refl}
+use mathlib.Core.Bool.{true, false}
+use mathlib.Core.Path.{◌≡◌}
+use lib.ListN.{take}
+use borrow.Author.Tests.{tests}
+use Rattle.std.proofs.Common.{rules}
+use Rattle.std.proofs.lemmas.Iterator.{YieldsList-from_slice, YieldsList-from_take, IsFirst-from_position}
+use Rattle.rig.specs.declared.Site.{Site}
+use Rattle.model.specs.State.{is_inside}
 use Rattle.model.specs.Printed.{inside_up_to}
-use Rattle.player_counts.proofs.Sites.{inside-stored}
+use Rattle.player_counts.proofs.Sites.{FirstAt, none-lowest, some-lowest}
 use Rattle.player_counts.proofs.inside.Goals as goal
+use Rattle.player_counts.proofs.inside.Goals.{After-position-first}
 
-pub loop-i-init : goal.loop-i-init
-unfolding inside_up_to lowest
-loop-i-init c = search rules
+told : (c : After-position-first) → let g = c.args.rig in FirstAt (λ s. is_inside s.mode) (take g.size g.sites) c.position-first.result
+told c =
+    let g = c.args.rig in
+    IsFirst-from_position _ _ _ (λ (s : Site). is_inside s.mode ≡ true) (λ (s : Site). is_inside s.mode ≡ false) c.position-first.ensures.ran (YieldsList-from_take g.size (YieldsList-from_slice g.sites cc) cc) (λ x q k. search (rules, tests)) (λ x q k. search (rules, tests))
 
-pub returns-then-is_inside : goal.returns-then-is_inside
-unfolding inside_up_to at
-returns-then-is_inside c =
-    let l = c.loop-i in
-    let rig = c.args.rig in
-    omega (arith, lowest-found _ l.i rig.size l.invariant.2 (sym c.is_inside.ensures ∙ c.if-is_inside.true) (omega arith))
+pub returns-in-Some : goal.returns-in-Some
+unfolding inside_up_to
+returns-in-Some c =
+    let g = c.args.rig in
+    let h = rw c.in-Some.is at (told (goal.at.returns-in-Some c).After-position-first) in
+    (some-lowest (λ s. is_inside s.mode) refl g.sites g.size c.in-Some.i h).0
 
-pub loop-i-preserved : goal.loop-i-preserved
-unfolding inside_up_to at
-loop-i-preserved c =
-    let l = c.loop-i in
-    (omega arith, l.invariant.1, lowest-more _ l.i l.invariant.2 (sym c.is_inside.ensures ∙ c.if-is_inside.false))
-
--- that a rig has 31 sites is what its type tells, `.good`
-pub returns : goal.returns
-returns c =
-    let l = c.loop-i in
-    let rig = c.args.rig in
-    let long : length rig.sites ≡ site_limit = c.well_formed.0.1.1.1.1.0.1.0.1 in
-    let end : l.i ≡ min rig.size site_limit = omega arith in
-    sym (rw end at l.invariant.2) ∙ inside-stored rig long rig.size
+pub returns-in-None : goal.returns-in-None
+unfolding inside_up_to
+returns-in-None c =
+    let g = c.args.rig in
+    let h = rw c.in-None.is at (told (goal.at.returns-in-None c).After-position-first) in
+    none-lowest (λ s. is_inside s.mode) refl g.sites g.size h

@@ -1,36 +1,22 @@
--- `waiting`: how many of the sites passed so far wait.
-use Prim.Native.Nat.{min}
-use mathlib.Core.Path.{◌≡◌, ◌∙◌}
-use native.Mathlib.Omega.{arith}
-use native.Mathlib.Numerals.{add-one}
-use borrow.Author.Rules.{rules}
-use lib.ListN.{length}
-use Rattle.rig.specs.Limits.{site_limit}
-use Rattle.basics.specs.Helpers.{count}
-use Rattle.model.specs.Tables.{at}
+-- `waiting`: how many of the sites wait.
+use mathlib.Core.Path.{◌≡◌, refl, ◌∙◌}
+use lib.ListN.{take, length}
+use borrow.Author.Tests.{tests}
+use Rattle.std.proofs.Common.{rules}
+use Rattle.std.specs.List.{filter}
+use Rattle.std.proofs.lemmas.Iterator.{YieldsList-from_slice, YieldsList-from_take}
+use Rattle.std.proofs.lemmas.Iterator.Consumers.{YieldsList-from_filter, count_from_yields_List}
+use Rattle.std.proofs.lemmas.List.Sums.{length-filter}
+use Rattle.rig.specs.declared.Site.{Site}
+use Rattle.model.specs.State.{is_waiting}
 use Rattle.model.specs.Run.{waiting_count}
-use Rattle.player_counts.proofs.Sites.{count-within, waiting-stored}
+use Rattle.player_counts.proofs.Sites.{first-count}
 use Rattle.player_counts.proofs.waiting.Goals as goal
 
-pub loop-i-init : goal.loop-i-init
-unfolding count
-loop-i-init c = search rules
-
-pub with_site-n-requires : goal.with_site-n-requires
-with_site-n-requires c = omega (arith, count-within _ _ _ c.loop-i.invariant.2)
-
-pub loop-i-preserved : goal.loop-i-preserved
-unfolding count at
-loop-i-preserved c =
-    let l = c.loop-i in
-    (omega arith, l.invariant.1, c.with_site-n.ensures ∙ rw (add-one, l.invariant.2))
-
--- that a rig has 31 sites is what its type tells, `.good`
 pub returns : goal.returns
 unfolding waiting_count
 returns c =
-    let l = c.loop-i in
-    let rig = c.args.rig in
-    let long : length rig.sites ≡ site_limit = c.well_formed.0.1.1.1.1.0.1.0.1 in
-    let end : l.i ≡ min rig.size site_limit = omega arith in
-    rw end at l.invariant.2 ∙ waiting-stored rig long rig.size
+    let g = c.args.rig in
+    let told : c.count.result ≡ length (filter (λ (s : Site). is_waiting s.mode) (take g.size g.sites)) =
+    count_from_yields_List _ _ c.count.ensures.ran (YieldsList-from_filter _ (λ (s : Site). is_waiting s.mode) (YieldsList-from_take g.size (YieldsList-from_slice g.sites cc) cc) c.filter.ensures.closure (λ x b q k. search (rules, tests))) in
+    told ∙ length-filter (λ (s : Site). is_waiting s.mode) (take g.size g.sites) ∙ first-count (λ s. is_waiting s.mode) refl g.sites g.size

@@ -1,16 +1,17 @@
 -- `print_members`: what a turn of the walk gives.
 use native.Mathlib.Omega.{arith}
-use Rattle.rig_members.proofs.Walk.{turn, turn-again, turn-less}
+use Rattle.rig_members.proofs.Walk.{turn, turn-again, walk_begins}
 use Rattle.print_families.proofs.print_members.Goals as goal
 
+pub loop-j-init : goal.loop-j-init
+loop-j-init g c = (tt, tt, walk_begins 40 c.args.set (omega arith) cc)
+
 pub print_member-requires : goal.print_member-requires
-print_member-requires g c = (turn c.loop-left.invariant (omega arith) c.lowest_member-j.ensures).visits
+print_member-requires g c =
+    let t = c.in-Some.ensures.steps in
+    (turn c.loop-j.invariant.2 t.0 t.1).visits
 
-pub without_member-left-requires : goal.without_member-left-requires
-without_member-left-requires g c = (turn c.loop-left.invariant (omega arith) c.lowest_member-j.ensures).takes
-
-pub loop-left-smaller : goal.loop-left-smaller
-loop-left-smaller g c = turn-less (turn c.loop-left.invariant (omega arith) c.lowest_member-j.ensures) c.without_member-left.ensures
-
-pub loop-left-preserved : goal.loop-left-preserved
-loop-left-preserved g c = turn-again (turn c.loop-left.invariant (omega arith) c.lowest_member-j.ensures) c.without_member-left.ensures
+pub loop-j-preserved : goal.loop-j-preserved
+loop-j-preserved g c =
+    let t = c.in-Some.ensures.steps in
+    (tt, tt, turn-again (turn c.loop-j.invariant.2 t.0 t.1) t.2)

@@ -7,6 +7,6 @@ pub returns-then-a-eq0 : goal.returns-then-a-eq0
 unfolding has_granted
 returns-then-a-eq0 c = rw (eq-eqb _ _ c.if-a-eq0.true)
 
-pub returns : goal.returns
+pub returns-else-a-eq0 : goal.returns-else-a-eq0
 unfolding has_granted
-returns c = rw (ne_eqb _ _ c.if-a-eq0.false)
+returns-else-a-eq0 c = rw (ne_eqb _ _ c.if-a-eq0.false)
