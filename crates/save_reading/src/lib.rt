@@ -32,9 +32,9 @@ fn read_sets(text: &[u8], at: usize, n: usize) -> Taken<Numbers>
 {
     let mut sets = [0; Rig::SITES];
     let mut next = at;
-    for i in 0..n {
+    for set in &mut sets[..n] {
         let taken = take_line(text, next);
-        sets[i] = set_of(taken.value);
+        *set = set_of(taken.value);
         next = taken.next;
     }
     Taken { value: sets, next }
@@ -57,9 +57,9 @@ fn read_sites(
         clock: 0,
     }; Rig::SITES];
     let mut next = at;
-    for i in 0..n {
+    for (i, site) in sites[..n].iter_mut().enumerate() {
         let taken = take_site(text, next);
-        sites[i] = taken.value;
+        *site = taken.value;
         next = take_rows(text, taken.next, sets[i], i, tables);
     }
     Taken { value: sites, next }
@@ -83,9 +83,9 @@ fn read_arbiters(
         seq: 0,
     }; Rig::SITES];
     let mut next = at;
-    for i in 0..n {
+    for (i, arbiter) in arbiters[..n].iter_mut().enumerate() {
         let taken = take_arbiter(text, next);
-        arbiters[i] = taken.value;
+        *arbiter = taken.value;
         let set = askers(sets, i as u64 + 1);
         next = take_queue(text, taken.next, set, i, tables);
     }
