@@ -12,28 +12,30 @@ use Rattle.model.specs.Sets.{member, set_of}
 use Rattle.model.specs.State.{has_member}
 use Rattle.model.specs.Tables.{at}
 use Rattle.model.specs.Setup.{resting_site, free_arbiter}
+use Rattle.player_grammar.specs.declared.Line.{Line}
 use Rattle.player_text.specs.Player.{set_in}
 use Rattle.save_lines.specs.Lines.{lines_in}
-use Rattle.save_text.specs.Reading.{numbers_at, site_line, arbiter_line, or_zero, set_from, site_from, arbiter_at, own_row, queue_row, array_of}
+use Rattle.save_text.specs.Reading.{numbers_at, site_line, arbiter_line, or_zero, set_from, site_from, arbiter_at, own_row, queue_row}
 use Rattle.family_sets.proofs.Members.{member_of}
 use Rattle.save_entries.proofs.Rows.{row_same}
-use Rattle.save_taking.specs.declared.TakenLine.{TakenLine}
+use Rattle.save_taking.specs.declared.Taken.{Taken}
 use Rattle.save_taking.specs.Places.{place_behind}
 use Rattle.save_taking.specs.Parts.{meant_here, site_here, arbiter_here, row_here, with_row, with_own}
 use Rattle.save_reading.specs.Places.{line_start}
 use Rattle.save_reading.specs.Lines.{own_tables, all_tables}
 use Rattle.save_reading.proofs.Places.{line-at, numbers-at}
-use Rattle.save_reading.proofs.Arrays.{array-more}
+use Rattle.save_reading.proofs.Arrays.{part_of, part-more, array-more}
 
 -- a set more
-module _ (text : List ℕ) (i : ℕ) (here : i < site_limit) (next : ℕ) (start : next ≡ line_start text (suc i)) (taken : TakenLine) (e : taken ≡ meant_here text next) where
+module _ (text : List ℕ) (i : ℕ) (next : ℕ) (start : next ≡ line_start text (suc i)) (taken : Taken Line) (e : taken ≡ meant_here text next) where
   pub behind-set : taken.next ≡ line_start text (suc (suc i))
   unfolding line_start
   behind-set = rw (e, start)
 
-  pub set_more : (sets : List ℕ) (s : ℕ) → sets ≡ array_of 0 (set_from (lines_in text)) i → s ≡ or_zero (set_in taken.line) → set sets i s ≡ array_of 0 (set_from (lines_in text)) (suc i)
+  pub set_more : (n : ℕ) → i < n → (sets : List ℕ) (s : ℕ) → sets ≡ part_of 0 (set_from (lines_in text)) n i → s ≡ or_zero (set_in taken.value)
+      → set sets i s ≡ part_of 0 (set_from (lines_in text)) n (suc i)
   unfolding set_from
-  set_more sets s a t = rw (t, e, start, line-at text (suc i), a) (array-more 0 (set_from (lines_in text)) i here)
+  set_more n here sets s a t = rw (t, e, start, line-at text (suc i), a) (part-more 0 (set_from (lines_in text)) n i here)
 
 -- a site more, of n with these sets
 module _ (text : List ℕ) (n : ℕ) (sets : List ℕ) (i : ℕ) (here : i < site_limit) (next : ℕ) (start : next ≡ line_start text (n + 2 + 5 * i)) where
@@ -47,13 +49,13 @@ module _ (text : List ℕ) (n : ℕ) (sets : List ℕ) (i : ℕ) (here : i < sit
       let e : n + 2 + 5 * suc i ≡ suc (suc (suc (suc (suc (n + 2 + 5 * i))))) = omega arith in
       rw (e, start)
 
-  pub site-more : (sites : List Site) → sites ≡ array_of resting_site (site_from (lines_in text) n sets) i
-      → set sites i (site_here text next).site ≡ array_of resting_site (site_from (lines_in text) n sets) (suc i)
+  pub site-more : i < n → (sites : List Site) → sites ≡ part_of resting_site (site_from (lines_in text) n sets) n i
+      → set sites i (site_here text next).value ≡ part_of resting_site (site_from (lines_in text) n sets) n (suc i)
   unfolding site_from line_start
-  site-more sites a =
+  site-more inside sites a =
       let e : site_line n (suc i) + 1 ≡ suc (n + 2 + 5 * i) = omega arith in
-      let f : site_from (lines_in text) n sets (suc i) ≡ (site_here text next).site = rw (e, line-of, start, numbers-at text (n + 2 + 5 * i), ← numbers-at text (suc (n + 2 + 5 * i))) in
-      rw (a, ← f) (array-more resting_site (site_from (lines_in text) n sets) i here)
+      let f : site_from (lines_in text) n sets (suc i) ≡ (site_here text next).value = rw (e, line-of, start, numbers-at text (n + 2 + 5 * i), ← numbers-at text (suc (n + 2 + 5 * i))) in
+      rw (a, ← f) (part-more resting_site (site_from (lines_in text) n sets) n i inside)
 
   -- its rows: a row for each of its lines but the first two
   own-row : (c at m : ℕ) → at ≡ line_start text m → site_line n (suc i) + c ≡ m → row_here (get_or sets i 0) text at ≡ own_row (lines_in text) n sets c (suc i)
@@ -83,15 +85,15 @@ module _ (text : List ℕ) (n : ℕ) (sets : List ℕ) (i : ℕ) (here : i < sit
       let e : 6 * n + 2 + 3 * suc i ≡ suc (suc (suc (6 * n + 2 + 3 * i))) = omega arith in
       rw (e, start)
 
-  pub arbiter-more : (arbiters : List Arbiter) → arbiters ≡ array_of free_arbiter (arbiter_at (lines_in text) n sets) i
-      → set arbiters i (arbiter_here text next).arbiter ≡ array_of free_arbiter (arbiter_at (lines_in text) n sets) (suc i)
+  pub arbiter-more : i < n → (arbiters : List Arbiter) → arbiters ≡ part_of free_arbiter (arbiter_at (lines_in text) n sets) n i
+      → set arbiters i (arbiter_here text next).value ≡ part_of free_arbiter (arbiter_at (lines_in text) n sets) n (suc i)
   unfolding arbiter_at line_start
-  arbiter-more arbiters a =
+  arbiter-more inside arbiters a =
       let m = 6 * n + 2 + 3 * i in
       let e : arbiter_line n (suc i) ≡ m = omega arith in
       let e' : arbiter_line n (suc i) + 1 ≡ suc m = omega arith in
-      let f : arbiter_at (lines_in text) n sets (suc i) ≡ (arbiter_here text next).arbiter = rw (e', e, start, numbers-at text m, ← numbers-at text (suc m)) in
-      rw (a, ← f) (array-more free_arbiter (arbiter_at (lines_in text) n sets) i here)
+      let f : arbiter_at (lines_in text) n sets (suc i) ≡ (arbiter_here text next).value = rw (e', e, start, numbers-at text m, ← numbers-at text (suc m)) in
+      rw (a, ← f) (part-more free_arbiter (arbiter_at (lines_in text) n sets) n i inside)
 
   -- its row: the entries of the sites that have it in their sets
   queue-row : row_here (set_of (λ k. has_member sets k (suc i)) site_limit) text (place_behind text (place_behind text next)) ≡ queue_row (lines_in text) n sets (suc i)

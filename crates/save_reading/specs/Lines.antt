@@ -1,6 +1,8 @@
 -- What the lines of a text give, part by part: the sets, the sites with their rows, the arbiters with theirs, the messages.
-use Rattle.std.specs.Prelude.{ℕ, ◌-◌, Bool, true, ◌&&◌, List, [], ◌∷◌, ◌++◌, map, ◌≡◌, leb, length, replicate}
+use Rattle.std.specs.Prelude.{ℕ, ◌-◌, Bool, true, false, ◌&&◌, Option, MatchOption, List, [], ◌∷◌, ◌++◌, map, ◌≡◌, leb, length, replicate}
+use Rattle.rig.specs.declared.Arbiter.{Arbiter}
 use Rattle.rig.specs.declared.Message.{Message}
+use Rattle.rig.specs.declared.Site.{Site}
 use Rattle.rig.specs.Limits.{site_limit, message_limit, blank_row, blank_table}
 use Rattle.model.specs.Setup.{resting_site, free_arbiter}
 use Rattle.list_rows.specs.Rows.{row_of, zero_row, ZeroPast}
@@ -10,23 +12,20 @@ use Rattle.save_messages.specs.Messages.{message_from}
 use Rattle.save_text.specs.Reading.{accepted_line, arbiter_line, message_line, size_from, set_from, array_of, site_from, arbiter_at, own_row, queue_row, messages_from, state_from}
 use Rattle.save_taking.specs.declared.Taken.{Taken}
 use Rattle.save_reading.specs.declared.Given.{Given}
-use Rattle.save_reading.specs.declared.TakenSites.{TakenSites}
-use Rattle.save_reading.specs.declared.TakenArbiters.{TakenArbiters}
-use Rattle.save_reading.specs.declared.TakenMessages.{TakenMessages}
 use Rattle.save_reading.specs.Places.{line_start}
 
 -- of a text whose rig has n sites
 module _ (text : List ℕ) (n : ℕ) where
-  abbrev pub taken_sets : Taken
-  taken_sets = record { numbers = array_of 0 (set_from (lines_in text)) n; next = line_start text (accepted_line n) }
+  abbrev pub taken_sets : Taken (List ℕ)
+  taken_sets = record { value = array_of 0 (set_from (lines_in text)) n; next = line_start text (accepted_line n) }
 
   -- with these sets
   module _ (sets : List ℕ) where
-    abbrev pub taken_sites : TakenSites
-    taken_sites = record { sites = array_of resting_site (site_from (lines_in text) n sets) n; next = line_start text (arbiter_line n 1) }
+    abbrev pub taken_sites : Taken (List Site)
+    taken_sites = record { value = array_of resting_site (site_from (lines_in text) n sets) n; next = line_start text (arbiter_line n 1) }
 
-    abbrev pub taken_arbiters : TakenArbiters
-    taken_arbiters = record { arbiters = array_of free_arbiter (arbiter_at (lines_in text) n sets) n; next = line_start text (message_line n) }
+    abbrev pub taken_arbiters : Taken (List Arbiter)
+    taken_arbiters = record { value = array_of free_arbiter (arbiter_at (lines_in text) n sets) n; next = line_start text (message_line n) }
 
     -- the rows of the first k sites, and those of the first k arbiters
     abbrev pub own_table : ℕ → ℕ → List (List ℕ)
@@ -49,18 +48,26 @@ messages_in ls = map (λ l. message_from (numbers_in l)) ls
 abbrev pub message_rows : List Message → List (List ℕ)
 message_rows ms = map row_of ms ++ replicate (message_limit - length ms) zero_row
 
--- the lines are read as messages; where they are too many, nothing is said of the rows
-pub record ReadsMessages (ls list : List (List ℕ)) (r : TakenMessages) : Type 0 where
-  pub all : r.all ≡ leb (length ls) message_limit
-  pub count : r.all ≡ true → r.count ≡ length ls
-  pub rows : r.all ≡ true → list ≡ message_rows (messages_in ls)
+-- the lines are read as messages, n of them
+pub record ReadsAll (ls list : List (List ℕ)) (n : ℕ) : Type 0 where
+  pub all : leb (length ls) message_limit ≡ true
+  pub count : n ≡ length ls
+  pub rows : list ≡ message_rows (messages_in ls)
+
+-- where they are too many, nothing is said of the rows
+abbrev pub ReadsMessages : List (List ℕ) → List (List ℕ) → Option ℕ → Type 0
+ReadsMessages ls list r = MatchOption r (leb (length ls) message_limit ≡ false) (λ n. ReadsAll ls list n)
 
 -- no more sites and messages than a state has
 abbrev pub fitting : List (List ℕ) → Bool
 fitting ls = leb (size_from ls) site_limit && leb (length (messages_from ls)) message_limit
 
--- a rig, tables, rows and a count are the state that the lines of a text give, unless there are too many sites or messages
-pub record GivesLines (text : List ℕ) (ts : List (List (List ℕ))) (list : List (List ℕ)) (r : Given) : Type 0 where
-  pub fits : r.fits ≡ fitting (lines_in text)
-  pub state : r.fits ≡ true → stored r.rig ts list r.count ≡ state_from (lines_in text)
-  pub zeros : r.fits ≡ true → ZeroPast r.count list
+-- a rig, tables, rows and a count are the state that the lines of a text give
+pub record GivesState (text : List ℕ) (ts : List (List (List ℕ))) (list : List (List ℕ)) (g : Given) : Type 0 where
+  pub fits : fitting (lines_in text) ≡ true
+  pub state : stored g.rig ts list g.count ≡ state_from (lines_in text)
+  pub zeros : ZeroPast g.count list
+
+-- they are, unless there are too many sites or messages
+abbrev pub GivesLines : List ℕ → List (List (List ℕ)) → List (List ℕ) → Option Given → Type 0
+GivesLines text ts list r = MatchOption r (fitting (lines_in text) ≡ false) (λ g. GivesState text ts list g)

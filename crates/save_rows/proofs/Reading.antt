@@ -4,7 +4,7 @@ use mathlib.Core.Bool.{true, false}
 use mathlib.Core.List.{List}
 use mathlib.Core.Logic.{◌≢◌}
 use mathlib.Core.Option.{none, some}
-use mathlib.Core.Path.{◌≡◌, refl, sym, ap, ◌∙◌}
+use mathlib.Core.Path.{◌≡◌, refl, ap}
 use native.Mathlib.Omega.{arith}
 use lib.Dec.{leb}
 use lib.ListN.{length}
@@ -24,7 +24,7 @@ use Rattle.save_lines.specs.Lines.{lines_in}
 use Rattle.save_text.specs.Text.{this_spelling}
 use Rattle.save_text.specs.Reading.{size_from, messages_from, tables_of, state_from, is_text_of, accepts, read_text}
 use Rattle.save_reading.specs.declared.Given.{Given}
-use Rattle.save_reading.specs.Lines.{fitting, GivesLines}
+use Rattle.save_reading.specs.Lines.{fitting, GivesState}
 use Rattle.save_rows.specs.Rows.{read_code, ReadsRows}
 
 -- a text whose lines have too many sites or messages
@@ -81,10 +81,9 @@ says-state len text ts after rows g n h e z = record {
 }
 
 -- no more messages than the list holds
-pub few : {text : List ℕ} {ts : List (List (List ℕ))} {list : List (List ℕ)} {r : Given} → GivesLines text ts list r → r.fits ≡ true → r.count ≤ message_limit
+pub few : {text : List ℕ} {ts : List (List (List ℕ))} {list : List (List ℕ)} {g : Given} → GivesState text ts list g → g.count ≤ message_limit
 unfolding state_from
-few {text} {r = r} g e =
-    let f : fitting (lines_in text) ≡ true = sym g.fits ∙ e in
-    let l = leb-true (length (messages_from (lines_in text))) message_limit (and_split (leb (size_from (lines_in text)) site_limit) _ f).1 in
-    let c : r.count ≡ length (messages_from (lines_in text)) = ap (λ (s : Stored). s.count) (g.state e) in
+few {text} {g = g} s =
+    let l = leb-true (length (messages_from (lines_in text))) message_limit (and_split (leb (size_from (lines_in text)) site_limit) _ s.fits).1 in
+    let c : g.count ≡ length (messages_from (lines_in text)) = ap (λ (t : Stored). t.count) s.state in
     omega arith

@@ -8,7 +8,7 @@ ghost use Rattle.save_rows.specs.Rows.{ReadsRows};
 use list_rows::Rows;
 use rig::{Answer, Rig, Tables};
 use save_matching::is_text_of;
-use save_reading::read_lines;
+use save_reading::{Given, read_lines};
 use setup::resting;
 
 // An inner call: what a text says, in the tables and in rows of zeros, for a list of `len` entries. No table is written before the text is judged.
@@ -21,18 +21,16 @@ pub fn read_rows(text: &[u8], len: usize, tables: &mut Tables, list: &mut Rows) 
         return Answer::refused(13, none, 0);
     }
     let mut read = Rig::blank();
-    let given = read_lines(text, &mut read, list);
-    let rig = given.rig;
-    if !given.fits {
+    let Some(Given { rig, count }) = read_lines(text, &mut read, list) else {
         return Answer::refused(14, none, 0);
-    }
-    if !is_text_of(text, rig, &read, list, given.count) {
+    };
+    if !is_text_of(text, rig, &read, list, count) {
         return Answer::refused(14, none, 0);
     }
     *tables = read;
     Answer {
         code: 0,
         rig,
-        count: given.count,
+        count,
     }
 }

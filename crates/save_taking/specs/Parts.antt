@@ -2,40 +2,40 @@
 use Rattle.std.specs.Prelude.{ℕ, List, [], get_or, set}
 use Rattle.rig.specs.Limits.{HELD, HEIR, INQUIRED}
 use Rattle.model.specs.Sets.{member}
+use Rattle.rig.specs.declared.Site.{Site}
+use Rattle.rig.specs.declared.Arbiter.{Arbiter}
+use Rattle.player_grammar.specs.declared.Line.{Line}
 use Rattle.player_grammar.specs.Grammar.{meaning_of}
 use Rattle.save_fields.specs.Fields.{nth, mode_from, arbiter_from}
 use Rattle.save_entries.specs.Entries.{row_from}
 use Rattle.save_taking.specs.declared.Taken.{Taken}
-use Rattle.save_taking.specs.declared.TakenLine.{TakenLine}
-use Rattle.save_taking.specs.declared.TakenSite.{TakenSite}
-use Rattle.save_taking.specs.declared.TakenArbiter.{TakenArbiter}
 use Rattle.save_taking.specs.Places.{line_here, numbers_here, place_behind}
 
-abbrev pub taken_here : List ℕ → ℕ → Taken
-taken_here text at = record { numbers = numbers_here text at; next = place_behind text at }
+abbrev pub taken_here : List ℕ → ℕ → Taken (List ℕ)
+taken_here text at = record { value = numbers_here text at; next = place_behind text at }
 
 -- as the player reads it
-abbrev pub meant_here : List ℕ → ℕ → TakenLine
-meant_here text at = record { line = meaning_of (line_here text at); next = place_behind text at }
+abbrev pub meant_here : List ℕ → ℕ → Taken Line
+meant_here text at = record { value = meaning_of (line_here text at); next = place_behind text at }
 
 -- a row of a table: its entries at the members of a set
 abbrev pub row_here : ℕ → List ℕ → ℕ → List ℕ
 row_here set text at = row_from (member set) (numbers_here text at)
 
-abbrev pub taken_row : ℕ → List ℕ → ℕ → Taken
-taken_row set text at = record { numbers = row_here set text at; next = place_behind text at }
+abbrev pub taken_row : ℕ → List ℕ → ℕ → Taken (List ℕ)
+taken_row set text at = record { value = row_here set text at; next = place_behind text at }
 
 -- `clock=` and `mode=`
-abbrev pub site_here : List ℕ → ℕ → TakenSite
+abbrev pub site_here : List ℕ → ℕ → Taken Site
 site_here text at = record {
-  site = record { mode = mode_from (numbers_here text (place_behind text at)); clock = nth (numbers_here text at) 0 };
+  value = record { mode = mode_from (numbers_here text (place_behind text at)); clock = nth (numbers_here text at) 0 };
   next = place_behind text (place_behind text at);
 }
 
 -- `grant=` and `holder=`
-abbrev pub arbiter_here : List ℕ → ℕ → TakenArbiter
+abbrev pub arbiter_here : List ℕ → ℕ → Taken Arbiter
 arbiter_here text at = record {
-  arbiter = arbiter_from (nth (numbers_here text at) 0) (numbers_here text (place_behind text at));
+  value = arbiter_from (nth (numbers_here text at) 0) (numbers_here text (place_behind text at));
   next = place_behind text (place_behind text at);
 }
 

@@ -14,55 +14,37 @@ use list_rows::{Row, row};
 use player_grammar::{Line, meaning};
 use rig::{Arbiter, Rig, Site, Table};
 use save_entries::row_from;
-use save_fields::{arbiter_from, mode_from};
+use save_fields::{Numbers, arbiter_from, mode_from};
 use save_messages::message_from;
-use save_numbers::{Numbers, end_of_line, next_line, numbers_in};
+use save_numbers::{end_of_line, next_line, numbers_in};
 
 // What is read from some lines, and the place where the next line starts.
 #[derive(Clone, Copy)]
-pub struct Taken {
-    pub numbers: Numbers,
-    pub next: usize,
-}
-
-#[derive(Clone, Copy)]
-pub struct TakenLine {
-    pub line: Line,
-    pub next: usize,
-}
-
-#[derive(Clone, Copy)]
-pub struct TakenSite {
-    pub site: Site,
-    pub next: usize,
-}
-
-#[derive(Clone, Copy)]
-pub struct TakenArbiter {
-    pub arbiter: Arbiter,
+pub struct Taken<T> {
+    pub value: T,
     pub next: usize,
 }
 
 // An inner call: the numbers of the line that starts at place `at`.
-pub fn take_numbers(text: &[u8], at: usize) -> Taken
+pub fn take_numbers(text: &[u8], at: usize) -> Taken<Numbers>
     requires { at ≤ length text.now }
     ensures { result ≡ taken_here text.now at }
 {
     let end = end_of_line(text, at);
     let next = next_line(end, text.len());
-    let numbers = numbers_in(&text[at..end]);
-    Taken { numbers, next }
+    let value = numbers_in(&text[at..end]);
+    Taken { value, next }
 }
 
 // An inner call: what the line that starts at place `at` says to the player.
-pub fn take_line(text: &[u8], at: usize) -> TakenLine
+pub fn take_line(text: &[u8], at: usize) -> Taken<Line>
     requires { at ≤ length text.now }
     ensures { result ≡ meant_here text.now at }
 {
     let end = end_of_line(text, at);
     let next = next_line(end, text.len());
-    let line = meaning(&text[at..end]);
-    TakenLine { line, next }
+    let value = meaning(&text[at..end]);
+    Taken { value, next }
 }
 
 // The number of a line `sites=`; 0 for another line.
@@ -86,50 +68,43 @@ pub fn set_of(line: Line) -> u64
 }
 
 // An inner call: a row of a table, its entries at the members of a set, ascending, as the line says them.
-pub fn take_row(text: &[u8], at: usize, set: u64) -> Taken
+pub fn take_row(text: &[u8], at: usize, set: u64) -> Taken<Numbers>
     requires { at ≤ length text.now }
     ensures { result ≡ taken_row set text.now at }
 {
     let line = take_numbers(text, at);
-    let numbers = line.numbers;
-    let row = row_from(set, &numbers);
     Taken {
-        numbers: row,
+        value: row_from(set, &line.value),
         next: line.next,
     }
 }
 
 // An inner call: a site, from its lines `clock=` and `mode=`.
-pub fn take_site(text: &[u8], at: usize) -> TakenSite
+pub fn take_site(text: &[u8], at: usize) -> Taken<Site>
     requires { at ≤ length text.now }
     ensures { result ≡ site_here text.now at }
 {
     let first = take_numbers(text, at);
     let second = take_numbers(text, first.next);
-    let numbers = second.numbers;
-    let clock = first.numbers[0];
-    let site = Site {
-        mode: mode_from(&numbers),
-        clock,
+    let value = Site {
+        mode: mode_from(&second.value),
+        clock: first.value[0],
     };
-    TakenSite {
-        site,
+    Taken {
+        value,
         next: second.next,
     }
 }
 
 // An inner call: an arbiter, from its lines `grant=` and `holder=`.
-pub fn take_arbiter(text: &[u8], at: usize) -> TakenArbiter
+pub fn take_arbiter(text: &[u8], at: usize) -> Taken<Arbiter>
     requires { at ≤ length text.now }
     ensures { result ≡ arbiter_here text.now at }
 {
     let first = take_numbers(text, at);
     let second = take_numbers(text, first.next);
-    let numbers = second.numbers;
-    let grant = first.numbers[0];
-    let arbiter = arbiter_from(grant, &numbers);
-    TakenArbiter {
-        arbiter,
+    Taken {
+        value: arbiter_from(first.value[0], &second.value),
         next: second.next,
     }
 }
@@ -140,16 +115,16 @@ pub fn take_rows(text: &[u8], at: usize, set: u64, i: usize, tables: &mut [Table
     ensures value { result ≡ behind_three text.now at }
     ensures tables_after { tables.new ≡ with_own tables.old i set text.now at }
 {
-    let held = take_row(text, at, set);
-    let held_row = held.numbers;
-    tables[Rig::HELD][i] = held_row;
-    let heir = take_row(text, held.next, set);
-    let heir_row = heir.numbers;
-    tables[Rig::HEIR][i] = heir_row;
-    let inquired = take_row(text, heir.next, set);
-    let inquired_row = inquired.numbers;
-    tables[Rig::INQUIRED][i] = inquired_row;
-    inquired.next
+    let Taken { value: held, next } = take_row(text, at, set);
+    tables[Rig::HELD][i] = held;
+    let Taken { value: heir, next } = take_row(text, next, set);
+    tables[Rig::HEIR][i] = heir;
+    let Taken {
+        value: inquired,
+        next,
+    } = take_row(text, next, set);
+    tables[Rig::INQUIRED][i] = inquired;
+    next
 }
 
 // An inner call: the row of an arbiter's line `queued=`, put at place i; answers the place behind the line.
@@ -158,10 +133,12 @@ pub fn take_queue(text: &[u8], at: usize, set: u64, i: usize, tables: &mut [Tabl
     ensures value { result ≡ place_behind text.now at }
     ensures tables_after { tables.new ≡ with_row tables.old QUEUED i (row_here set text.now at) }
 {
-    let queued = take_row(text, at, set);
-    let row = queued.numbers;
-    tables[Rig::QUEUED][i] = row;
-    queued.next
+    let Taken {
+        value: queued,
+        next,
+    } = take_row(text, at, set);
+    tables[Rig::QUEUED][i] = queued;
+    next
 }
 
 // An inner call: the message of a line, put at place i; answers the place behind the line.
@@ -171,7 +148,6 @@ pub fn take_message(text: &[u8], at: usize, list: &mut [Row], i: usize) -> usize
     ensures list_after { list.new ≡ set list.old i (row_of (message_from (numbers_here text.now at))) }
 {
     let taken = take_numbers(text, at);
-    let numbers = taken.numbers;
-    list[i] = row(message_from(&numbers));
+    list[i] = row(message_from(&taken.value));
     taken.next
 }

@@ -1,12 +1,10 @@
 -- `read_messages`: the rows so far, zeros behind them, and the lines that are left.
 use Prim.Native.Nat.{◌<◌}
-use mathlib.Core.Bool.{false}
-use mathlib.Core.Path.{◌≡◌, refl, sym, ◌∙◌}
+use mathlib.Core.Path.{◌≡◌, refl, ◌∙◌}
 use native.Mathlib.Numerals.{add-one}
 use native.Mathlib.Omega.{arith}
 use borrow.Author.Tests.{lt-leb, le-leb}
 use lib.ListN.{length, drop}
-use Rattle.basics.proofs.Basics.{clash}
 use Rattle.rig.specs.Limits.{message_limit}
 use Rattle.save_lines.specs.Lines.{lines_in}
 use Rattle.save_taking.proofs.Places.{behind-within}
@@ -22,7 +20,7 @@ returns-then-count-eq-MESSAGES c =
     let a = c.args in
     let ls = lines_in (drop a.at a.text.now) in
     let more = more_left a.text.now ls l.count l.next l.invariant.0 l.invariant.3 (omega arith) in
-    record { all = sym (lt-leb (length ls) message_limit (omega arith)); count = λ e. clash false e refl; rows = λ e. clash false e refl }
+    lt-leb (length ls) message_limit (omega arith)
 
 pub take_message-next-requires : goal.take_message-next-requires
 take_message-next-requires c =
@@ -52,4 +50,4 @@ returns c =
     let ls = lines_in (drop a.at a.text.now) in
     let none = none_more a.text.now ls l.count l.next l.invariant.0 l.invariant.3 (omega arith) in
     let e : l.count ≡ length ls = omega arith in
-    record { all = sym (le-leb (length ls) message_limit (omega arith)); count = λ _. e; rows = λ _. l.invariant.4 ∙ all-rows ls l.count e }
+    record { all = le-leb (length ls) message_limit (omega arith); count = e; rows = l.invariant.4 ∙ all-rows ls l.count e }

@@ -8,4 +8,4 @@ take_numbers-second-requires c =
     rw c.take_numbers-first.ensures (behind-within a.text.now a.at)
 
 pub returns : goal.returns
-returns c = rw (c.arbiter_from-arbiter.ensures, c.take_numbers-second.ensures, c.take_numbers-first.ensures)
+returns c = rw (c.arbiter_from.ensures, c.take_numbers-second.ensures, c.take_numbers-first.ensures)

@@ -14,4 +14,4 @@ slice_bounds-meaning-start c = omega (arith, c.end_of_line-end.ensures.value)
 
 pub returns : goal.returns
 unfolding line_here
-returns c = rw (c.meaning-line.ensures, c.next_line-next.ensures, c.end_of_line-end.ensures.value)
+returns c = rw (c.meaning-value.ensures, c.next_line-next.ensures, c.end_of_line-end.ensures.value)

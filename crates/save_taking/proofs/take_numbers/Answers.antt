@@ -14,4 +14,4 @@ slice_bounds-numbers_in-start c = omega (arith, c.end_of_line-end.ensures.value)
 
 pub returns : goal.returns
 unfolding line_here
-returns c = rw (c.numbers_in-numbers.ensures, c.next_line-next.ensures, c.end_of_line-end.ensures.value)
+returns c = rw (c.numbers_in-value.ensures, c.next_line-next.ensures, c.end_of_line-end.ensures.value)

@@ -3,7 +3,7 @@ use Rattle.save_taking.proofs.take_queue.Goals as goal
 
 pub returns : goal.returns
 returns c =
-    let e = c.take_row-queued.ensures in
+    let e = c.take_row-next.ensures in
     record {
       value = rw e;
       tables_after = rw e;

@@ -2,4 +2,4 @@
 use Rattle.save_taking.proofs.take_row.Goals as goal
 
 pub returns : goal.returns
-returns c = rw (c.row_from-row.ensures, c.take_numbers-line.ensures)
+returns c = rw (c.row_from.ensures, c.take_numbers-line.ensures)
