@@ -15,6 +15,7 @@ use list_rows::{Row, append};
 use rig::{Desk, Message};
 
 // An inquire to the holder if k comes before it, else a fail to k.
+#[tactic(auto, unfolding(model::specs::Arbiter::inquire_or_fail))]
 fn inquire_or_fail(d: Desk, k: u64) -> Message
     requires { SiteNumber k }
     ensures { result ≡ inquire_or_fail d k }

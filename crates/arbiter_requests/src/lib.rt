@@ -13,18 +13,18 @@ use arbiter_grants::grant;
 use arbiter_queue::{head, requeued};
 use event_effects::Acted;
 use list_rows::Row;
-use rig::Desk;
+use rig::{Desk, Site};
 
 // The site's clock becomes the larger of itself and n.
+#[tactic(auto, unfolding(model::specs::Arbiter::clock_raised))]
 fn clock_raised(d: Desk, n: u64) -> Desk
     ensures { result ≡ clock_raised d n }
 {
-    if n <= d.site.clock {
-        return d;
-    }
-    let mut u = d;
-    u.site.clock = n;
-    u
+    let site = Site {
+        clock: d.site.clock.max(n),
+        ..d.site
+    };
+    Desk { site, ..d }
 }
 
 // Queues k with sequence number n, while another site holds the permission.

@@ -10,7 +10,7 @@ ghost use Rattle.event_storing.specs.Needs.{SiteReady};
 use event_deliveries::deliver;
 use event_sites::sites_named;
 use event_storing::Done;
-use event_turns::turn;
+use event_turns::{ask, leave};
 use list_rows::{Outbox, Rows};
 use rig::{Arbiter, Event, Site, Tables};
 
@@ -35,11 +35,11 @@ pub fn step_at(
         return Done::refused(4, site, arbiter, count);
     }
     match e {
-        Event::Ask(s) => turn(
-            true, size, accepted, s, set, site, arbiter, tables, list, count, out,
+        Event::Ask(s) => ask(
+            size, accepted, s, set, site, arbiter, tables, list, count, out,
         ),
-        Event::Leave(s) => turn(
-            false, size, accepted, s, set, site, arbiter, tables, list, count, out,
+        Event::Leave(s) => leave(
+            size, accepted, s, set, site, arbiter, tables, list, count, out,
         ),
         Event::Deliver(a, b) => deliver(
             size, accepted, set, site, arbiter, tables, list, count, out, a, b,

@@ -32,24 +32,20 @@ pub fn step(
         × Sends (attempt_on (before rig tables list count) e) out }
 {
     let i = place_of(rig.size, actor(e));
-    let site = rig.sites[i];
-    let arbiter = rig.arbiters[i];
     let done = step_at(
         rig.size,
         rig.accepted,
         rig.sets[i],
-        site,
-        arbiter,
+        rig.sites[i],
+        rig.arbiters[i],
         tables,
         list,
         count,
         out,
         e,
     );
-    let site_after = done.site;
-    rig.sites[i] = site_after;
-    let arbiter_after = done.arbiter;
-    rig.arbiters[i] = arbiter_after;
+    rig.sites[i] = done.site;
+    rig.arbiters[i] = done.arbiter;
     rig.accepted = counted_on(rig.accepted, done.code);
     Answer {
         code: done.code,

@@ -65,12 +65,10 @@ pub fn conclude(
     }
     store_rows(tables, s, d);
     let n = exchange(list, count, place, out, a.count);
-    let next = d.site;
-    let granting = d.arbiter;
     Done {
         code: 0,
-        site: next,
-        arbiter: granting,
+        site: d.site,
+        arbiter: d.arbiter,
         count: n,
     }
 }

@@ -1,24 +1,21 @@
--- An ask or a leave that is refused, and one that is possible.
+-- What a rule carried out at its site's desk is the turn's outcome, and what it sent is what the turn leaves in the outbox.
 use Prim.Native.Nat.{ℕ}
-use mathlib.Core.Path.{◌≡◌}
-use mathlib.Core.Logic.{◌≢◌}
-use mathlib.Core.Bool.{Bool, true, false}
+use mathlib.Core.Path.{◌≡◌, sym, ap, ◌∙◌}
 use mathlib.Core.List.{List}
-use native.Mathlib.Omega.{arith}
-use Rattle.basics.proofs.Basics.{by_bool}
 use Rattle.rig.specs.declared.Desk.{Desk}
-use Rattle.rig.specs.declared.Message.{Message}
-use Rattle.model.specs.State.{is_resting, is_inside}
-use Rattle.model.specs.Event.{refused, possible, attempt}
-use Rattle.event_turns.specs.Turns.{turn_code, turn_effect, turn_attempt}
+use Rattle.model.specs.Desk.{Effect}
+use Rattle.model.specs.Event.{possible, judged}
+use Rattle.event_effects.specs.declared.Acted.{Acted}
+use Rattle.event_effects.specs.Effects.{CarriesOut}
+use Rattle.event_storing.specs.Leaves.{messages_in, effect_of, staying}
+use Rattle.event_storing.specs.Outbox.{outbox_after}
+use Rattle.event_storing.proofs.Carried.{carried-effect, carried-outbox, all_stay, same-judged}
 
-module _ (d : Desk) (ms : List Message) where
-  pub turned_down : (asks : Bool) → turn_code asks d.site.mode ≢ 0 → turn_attempt asks d ms ≡ refused (turn_code asks d.site.mode)
-  unfolding attempt
-  turned_down true h = by_bool (is_resting d.site.mode) (λ e. absurd (h (rw e))) (λ e. rw e)
-  turned_down false h = by_bool (is_inside d.site.mode) (λ e. absurd (h (rw e))) (λ e. rw e)
+-- u is the desk that the call put together
+module _ (rule : Desk → Effect) {d u : Desk} {rows after : List (List ℕ)} {a : Acted} (s : CarriesOut (rule u) 0 rows after a) (e : u ≡ d) where
+  pub turn-judged : (accepted n : ℕ) (list : List (List ℕ))
+      → judged accepted d (messages_in n list) (possible (rule d) (messages_in n list)) ≡ judged accepted d (messages_in n list) (possible (effect_of a after) (staying n n list))
+  turn-judged accepted n list = sym (same-judged accepted d (messages_in n list) (carried-effect s ∙ ap rule e) (all_stay n list))
 
-  pub turned : (asks : Bool) → turn_code asks d.site.mode ≡ 0 → turn_attempt asks d ms ≡ possible (turn_effect asks d) ms
-  unfolding attempt
-  turned true h = by_bool (is_resting d.site.mode) (λ e. rw e) (λ e. let z : ◌≡◌ {A = ℕ} 5 0 = rw e at h in absurd (omega arith))
-  turned false h = by_bool (is_inside d.site.mode) (λ e. rw e) (λ e. let z : ◌≡◌ {A = ℕ} 6 0 = rw e at h in absurd (omega arith))
+  pub turn-outbox : (n : ℕ) (list : List (List ℕ)) → after ≡ outbox_after (possible (rule d) (messages_in n list)) rows
+  turn-outbox n list = rw (← e) (carried-outbox s (messages_in n list))

@@ -21,15 +21,15 @@ returns-then-not-sites_named c =
     let no = sym c.sites_named.ensures ∙ not-true _ c.if-not-sites_named.true-raw in
     rw (unnamed a.accepted d ms a.e no, unnamed-attempt d ms a.e no, c.refused.ensures) (left_alone a.tables.now _ a.list.now _ (actor a.e) a.count 4 a.size a.set a.site a.arbiter ms refl refl refl c.requires.zeros, refl)
 
-pub turn-requires : goal.turn-requires
+pub ask-requires : goal.ask-requires
 unfolding actor sites_named
-turn-requires c =
+ask-requires c =
     let q = c.in-Ask.is in
     (rw q at (sym c.sites_named.ensures ∙ not-false _ c.if-not-sites_named.false-raw), rw q at c.requires)
 
-pub turn-requires-in-Leave : goal.turn-requires-in-Leave
+pub leave-requires : goal.leave-requires
 unfolding actor sites_named
-turn-requires-in-Leave c =
+leave-requires c =
     let q = c.in-Leave.is in
     (rw q at (sym c.sites_named.ensures ∙ not-false _ c.if-not-sites_named.false-raw), rw q at c.requires)
 
@@ -47,7 +47,7 @@ returns-in-Ask c =
     let d = desk_at a.size (actor a.e) a.set a.site a.arbiter a.tables.now in
     let ms = messages_in a.count a.list.now in
     let yes = sym c.sites_named.ensures ∙ not-false _ c.if-not-sites_named.false-raw in
-    rw (named a.accepted d ms a.e yes, named-attempt d ms a.e yes, c.in-Ask.is) c.turn.ensures
+    rw (named a.accepted d ms a.e yes, named-attempt d ms a.e yes, c.in-Ask.is) c.ask.ensures
 
 pub returns-in-Leave : goal.returns-in-Leave
 unfolding actor
@@ -56,7 +56,7 @@ returns-in-Leave c =
     let d = desk_at a.size (actor a.e) a.set a.site a.arbiter a.tables.now in
     let ms = messages_in a.count a.list.now in
     let yes = sym c.sites_named.ensures ∙ not-false _ c.if-not-sites_named.false-raw in
-    rw (named a.accepted d ms a.e yes, named-attempt d ms a.e yes, c.in-Leave.is) c.turn-in-Leave.ensures
+    rw (named a.accepted d ms a.e yes, named-attempt d ms a.e yes, c.in-Leave.is) c.leave.ensures
 
 pub returns-in-Deliver : goal.returns-in-Deliver
 unfolding actor
