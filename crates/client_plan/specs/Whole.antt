@@ -1,5 +1,5 @@
 -- What a caller of the planner gets for the words `grid` and a side.
-use Rattle.std.specs.Prelude.{ℕ, List, [], ◌∷◌, ◌++◌, length, drop}
+use Rattle.std.specs.Prelude.{ℕ, List, [], ◌∷◌, ◌++◌, length, drop, Option}
 use Rattle.plan_numbers.specs.declared.Given.{Given}
 use Rattle.plan_numbers.specs.Given.{given}
 use Rattle.plan_words.specs.declared.Asked.{Asked}
@@ -11,7 +11,7 @@ use Rattle.plan_text.specs.Plan.{text_for, stream_for}
 abbrev pub side_given : List ℕ → Given
 side_given side = given (side ∷ [])
 
-abbrev pub grid_asked : List ℕ → Asked
+abbrev pub grid_asked : List ℕ → Option Asked
 grid_asked side = asked_by grid_word (side_given side)
 
 -- where the text goes, and its length

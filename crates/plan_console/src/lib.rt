@@ -9,7 +9,7 @@ ghost use Rattle.plan_console.specs.Planned.{ReadsWord, ReadsWords, PlansWords};
 use host_bytes::word;
 use plan_lines::{PLAN_LENGTH, PlanPage};
 use plan_numbers::{Given, nothing_given, with_word};
-use plan_text::{Output, STDERR_FILENO, plan};
+use plan_text::{Output, Stream, plan};
 use std::io;
 use std::io::Write;
 use std::rt::Env;
@@ -27,10 +27,9 @@ pub fn print_at<W: Write, E: Write>(
 ) -> io::Result<()> {
     let mut page = [0u8; PLAN_LENGTH];
     let output = plan_at(rt, at, end, &mut page);
-    if output.to == STDERR_FILENO {
-        errors.write_all(&page[..output.length])
-    } else {
-        to.write_all(&page[..output.length])
+    match output.to {
+        Stream::Out => to.write_all(&page[..output.length]),
+        Stream::Err => errors.write_all(&page[..output.length]),
     }
 }
 

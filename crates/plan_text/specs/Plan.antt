@@ -1,5 +1,5 @@
 -- Request 2.1, "a program that prints a family", and request 2.5: what a command prints, and where.
-use Rattle.std.specs.Prelude.{cond, List, [], ◌∷◌, ◌≡◌, ℕ, eqb, ℤ, pos}
+use Rattle.std.specs.Prelude.{cond, List, [], ◌∷◌, ◌≡◌, ℕ, eqb, Option, Some, None}
 use Rattle.rig.specs.Limits.{site_limit}
 use Rattle.host_bytes.specs.Counts.{IsPrefixLen}
 use Rattle.family_rules.specs.declared.Family.{Family}
@@ -10,9 +10,11 @@ use Rattle.plan_lines.specs.Lines.{code_text, setup_text}
 use Rattle.player_printing.specs.Printing.{Printed}
 use Rattle.plan_numbers.specs.declared.Given.{Given}
 use Rattle.plan_words.specs.declared.Asked.{Asked}
-use Rattle.plan_words.specs.declared.Asked.TheVariants.{For, Votes, Wrong}
+use Rattle.plan_words.specs.declared.Asked.TheVariants.{For, Votes}
 use Rattle.plan_words.specs.Words.{asked_by}
 use Rattle.plan_text.specs.declared.Output.{Output}
+use Rattle.plan_text.specs.declared.Stream.{Stream}
+use Rattle.plan_text.specs.declared.Stream.TheVariants.{Out, Err}
 
 -- "`sites=N` and the N lines `set=`"; "A refusal prints one line `code=12`."
 unfoldable pub family_text : Family → List ℕ
@@ -31,16 +33,15 @@ usage_text =
     116 ∷ 101 ∷ 115 ∷ 32 ∷ 86 ∷ 79 ∷ 84 ∷ 69 ∷ 32 ∷ 46 ∷ 46 ∷ 46 ∷ 10 ∷ []
 
 -- what is asked, with the numbers that are given; "A wrong word, a number that is none or too many of them print how to use it"
-unfoldable pub text_for : Asked → Given → List ℕ
-text_for (For f) g = family_text f
-text_for Votes g = votes_text g.count g.numbers
-text_for Wrong g = usage_text
+unfoldable pub text_for : Option Asked → Given → List ℕ
+text_for (Some (For f)) g = family_text f
+text_for (Some Votes) g = votes_text g.count g.numbers
+text_for None g = usage_text
 
--- the file descriptor: standard output, or, how to use it, "to standard error"
-unfoldable pub stream_for : Asked → ℤ
-stream_for (For f) = pos 1
-stream_for Votes = pos 1
-stream_for Wrong = pos 2
+-- standard output, or, how to use it, "to standard error"
+unfoldable pub stream_for : Option Asked → Stream
+stream_for (Some a) = Out
+stream_for None = Err
 
 -- what is asked stands at the start of the page, and the bytes behind it are as they came; the answer has where it goes, and its length on the page
 abbrev pub Prints : List ℕ → Given → List ℕ → List ℕ → Output → Type 0

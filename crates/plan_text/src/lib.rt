@@ -12,15 +12,17 @@ use plan_words::{Asked, asked_by};
 use player_bytes::put_word;
 use rig::Rig;
 
-// The file descriptors of the system that a text goes to: standard output and standard error.
-pub const STDOUT_FILENO: i32 = 1;
+// Where a text goes: to standard output or standard error.
+#[derive(Clone, Copy, PartialEq, Eq)]
+pub enum Stream {
+    Out,
+    Err,
+}
 
-pub const STDERR_FILENO: i32 = 2;
-
-// The file descriptor that a text goes to, and the text's length on the page.
+// Where a text goes, and its length on the page.
 #[derive(Clone, Copy)]
 pub struct Output {
-    pub to: i32,
+    pub to: Stream,
     pub length: usize,
 }
 
@@ -28,18 +30,17 @@ pub struct Output {
 pub fn plan(name: &[u8], given: Given, page: &mut PlanPage) -> Output
     ensures { Prints name.now given page.old page.new result }
 {
-    let asked = asked_by(name, given);
-    match asked {
-        Asked::For(family) => Output {
-            to: STDOUT_FILENO,
+    match asked_by(name, given) {
+        Some(Asked::For(family)) => Output {
+            to: Stream::Out,
             length: family_lines(family, page),
         },
-        Asked::Votes => Output {
-            to: STDOUT_FILENO,
+        Some(Asked::Votes) => Output {
+            to: Stream::Out,
             length: votes_lines(given, page),
         },
-        Asked::Wrong => Output {
-            to: STDERR_FILENO,
+        None => Output {
+            to: Stream::Err,
             length: usage(page),
         },
     }
@@ -61,9 +62,8 @@ fn family_lines(family: Family, page: &mut PlanPage) -> usize
 fn votes_lines(given: Given, page: &mut PlanPage) -> usize
     ensures { Printed (votes_text given.count given.numbers) page.old page.new result }
 {
-    let votes = given.numbers;
     let mut sets = [0u64; Rig::SITES];
-    let code = generate_by_votes(given.count, &votes, &mut sets);
+    let code = generate_by_votes(given.count, &given.numbers, &mut sets);
     if code != 0 {
         return code_line(page, code);
     }

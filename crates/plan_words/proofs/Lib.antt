@@ -1,3 +1,3 @@
--- Commands and what they ask.
-pub mod Tests
+-- Words by their bytes, and what commands ask.
+pub mod ByBytes
 pub mod Examples

@@ -26,10 +26,7 @@ pub fn save_end(s: Playing, page: &mut TextPage) -> usize
         return put_word(page, 0, &stop[..n]);
     }
     let player = player_of(s);
-    let rig = player.rig;
-    let tables = tables_of(s);
-    let list = list_of(s);
-    put_saved(page, rig, &tables, &list, player.count)
+    put_saved(page, player.rig, &tables_of(s), &list_of(s), player.count)
 }
 
 // The saved text of a state, or the stop of a misshapen one; answers its length.

@@ -12,19 +12,11 @@ pub fn last_line(bytes: &[u8]) -> usize
 {
     let mut start = 0;
     let mut ended = true;
-    for i in 0..bytes.len() {
-        start = start_at(ended, start, i);
-        ended = bytes[i] == 10;
-    }
-    start
-}
-
-// Where the line of byte i starts: there, behind the end of a line.
-fn start_at(ended: bool, start: usize, i: usize) -> usize
-    ensures { result ≡ cond ended i start }
-{
-    if ended {
-        return i;
+    for (i, byte) in bytes.iter().enumerate() {
+        if ended {
+            start = i;
+        }
+        ended = *byte == b'\n';
     }
     start
 }

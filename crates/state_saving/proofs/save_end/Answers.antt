@@ -25,6 +25,6 @@ returns c =
     let ended = c.finish-n.ensures in
     let s = c.args.s in
     printed-as
-    (state-of s _ _ _ c.player_of-player.ensures c.tables_of-tables.ensures c.list_of-list.ensures
+    (state-of s _ _ _ c.player_of-player.ensures c.tables_of.ensures c.list_of.ensures
     ∙ no_stop (known s) (cut_line s) (omega (arith, ended.count, c.if-n-gt0.false)))
     c.put_saved.ensures

@@ -1,7 +1,7 @@
--- `save_on`: each part of a piece reads some of it.
+-- `play_pieces`: each part of a piece reads some of it.
 use Rattle.std.proofs.Common.{rules, ◌≤◌, arith}
 use Rattle.player_reading.proofs.Turns.{some_read}
-use Rattle.state_input.proofs.save_on.Goals as goal
+use Rattle.player_console.proofs.play_pieces.Goals as goal
 
 pub loop-from-smaller : goal.loop-from-smaller
 loop-from-smaller g c =
