@@ -12,6 +12,7 @@ ghost use Rattle.save_taking.specs.Parts.{taken_here, meant_here, taken_row, sit
 
 use list_rows::{Row, row};
 use player_grammar::{Line, meaning};
+use player_text::{set_in, size_in};
 use rig::{Arbiter, Rig, Site, Table};
 use save_entries::row_from;
 use save_fields::{arbiter_from, mode_from};
@@ -27,7 +28,7 @@ pub struct Taken {
 
 #[derive(Clone, Copy)]
 pub struct TakenLine {
-    pub line: Line,
+    pub line: Option<Line>,
     pub next: usize,
 }
 
@@ -66,20 +67,20 @@ pub fn take_line(text: &[u8], at: usize) -> TakenLine
 }
 
 // The number of a line `sites=`; 0 for another line.
-pub fn size_of(line: Line) -> u64
+pub fn size_of(line: Option<Line>) -> u64
     ensures { result ≡ or_zero (size_in line) }
 {
-    let Line::Sites(n) = line else {
+    let Some(n) = size_in(line) else {
         return 0;
     };
     n
 }
 
 // The set of a line `set=`; 0 for another line.
-pub fn set_of(line: Line) -> u64
+pub fn set_of(line: Option<Line>) -> u64
     ensures { result ≡ or_zero (set_in line) }
 {
-    let Line::Set(set) = line else {
+    let Some(set) = set_in(line) else {
         return 0;
     };
     set
