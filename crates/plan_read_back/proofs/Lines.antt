@@ -4,6 +4,7 @@ use mathlib.Core.Bool.{true}
 use mathlib.Core.List.{List, [], ◌∷◌, ◌++◌, append-nil}
 use mathlib.Core.Logic.{◌≢◌}
 use Rattle.std.specs.Prelude.{Some}
+use Rattle.std.specs.Option.{option_map}
 use mathlib.Core.Path.{◌≡◌, refl, sym, ap, ◌∙◌}
 use native.Mathlib.Nat.{mod-lt, mod-eq_of_lt}
 use native.Mathlib.Omega.{arith}
@@ -22,7 +23,7 @@ use Rattle.player_bytes.specs.Decimal.{decimal}
 use Rattle.player_bytes.proofs.Digits.{decimal-length}
 use Rattle.player_grammar.specs.Grammar.{longer, parts, before, all_numbers, numbers, ascends, site_bit, with_sites, set_line, starts, form, line_limit, meaning_of}
 use Rattle.player_grammar.specs.declared.Line.TheVariants.{Sites, Set}
-use Rattle.player_grammar.proofs.Lists.{one_of, one_number}
+use Rattle.player_grammar.proofs.Lists.{one_number}
 use Rattle.rig_members.specs.Walk.{members_up_to}
 use Rattle.plan_lines.specs.Lines.{list_text, sites_bytes, set_bytes}
 use Rattle.plan_lines.proofs.Lines.{set-bytes-short}
@@ -34,7 +35,7 @@ pub sites-read : SitesRead
 unfolding meaning_of form starts
 sites-read n h =
     rw (le-leb (length (sites_bytes n)) line_limit (omega (arith, decimal-length n)))
-    (one_number Sites (decimal n) ∙ ap (one_of Sites) (number_read n h))
+    (one_number Sites (decimal n) ∙ ap (option_map Sites) (number_read n h))
 
 -- the parts of bytes: those before the first comma, or all where there is none
 parts-comma : (ds bs : List ℕ) → Lacks 44 ds → parts (ds ++ (44 ∷ bs)) ≡ ds ∷ parts bs
@@ -110,7 +111,7 @@ members-set set (suc i) h =
 
 -- a list of members read: the set, where there are any
 list_read : (set : ℕ) (ns : List ℕ) → set ≢ 0 → All (λ m. m ≤ 999) ns → ascends ns ≡ true → with_sites 0 ns ≡ set
-    → set_line (numbers (list_text ns)) ≡ Set set
+    → set_line (numbers (list_text ns)) ≡ Some (Set set)
 unfolding set_line with_sites
 list_read set [] ne small up e = absurd (ne (sym e))
 list_read set (n ∷ ns) ne small up e = rw (numbers-read n ns small, up, e)

@@ -3,7 +3,7 @@ use Prim.Native.Nat.{ℕ, zero, suc, ◌+◌, ◌-◌, ◌^◌, ◌≤◌, ◌<�
 use mathlib.Core.Bool.{true, not}
 use mathlib.Core.List.{List, [], ◌∷◌, ◌++◌, append-nil, append_assoc}
 use mathlib.Core.Logic.{⊎_elim}
-use mathlib.Core.Option.{some}
+use Rattle.std.specs.Prelude.{Some}
 use mathlib.Core.Path.{◌≡◌, refl, ◌∙◌}
 use native.Mathlib.Numerals.{add-one}
 use native.Mathlib.Omega.{arith}
@@ -66,7 +66,7 @@ behind n sets i = record { stage = Sets; line = i + 1; step = 0; size = n; given
 
 module _ (n : ℕ) (sets : List ℕ) (a : Accepted n sets) where
   -- set i + 1 is read as what it is
-  set-meant : (i : ℕ) → i < n → set_in (meaning_of (set_bytes (at 0 sets (suc i)))) ≡ some (at 0 sets (suc i))
+  set-meant : (i : ℕ) → i < n → set_in (meaning_of (set_bytes (at 0 sets (suc i)))) ≡ Some (at 0 sets (suc i))
   unfolding set_in all_name
   set-meant i h =
       let named = all-at (λ k. names n (at 0 sets k)) n (suc i) a.name (omega arith) (omega arith) in

@@ -1,5 +1,5 @@
 -- Request 2.1, "a program that prints a family": its lines are "just as the player reads them".
-use Rattle.std.specs.Prelude.{ℕ, ◌≤◌, true, List, [], ◌++◌, ◌≡◌}
+use Rattle.std.specs.Prelude.{ℕ, ◌≤◌, true, List, [], ◌++◌, ◌≡◌, Some}
 use Rattle.rig.specs.Limits.{site_limit}
 use Rattle.model.specs.Sets.{names}
 use Rattle.family_rules.specs.declared.Family.{Family}
@@ -15,11 +15,11 @@ use Rattle.plan_read_back.specs.Ready.{ready, played_behind}
 
 -- the player's grammar reads a printed line `sites=` back as the same number, for every number from 0 to 999
 abbrev pub SitesRead : Type 0
-SitesRead = (n : ℕ) → n ≤ 999 → meaning_of (sites_bytes n) ≡ Sites n
+SitesRead = (n : ℕ) → n ≤ 999 → meaning_of (sites_bytes n) ≡ Some (Sites n)
 
 -- and a printed line `set=` as the same set, for every set of sites 1 to the limit
 abbrev pub SetRead : Type 0
-SetRead = (set : ℕ) → names site_limit set ≡ true → meaning_of (set_bytes set) ≡ Set set
+SetRead = (set : ℕ) → names site_limit set ≡ true → meaning_of (set_bytes set) ≡ Some (Set set)
 
 -- a printed family always sets up: whatever follows its lines is played on its fresh rig
 abbrev pub FamilySetUp : Type 0

@@ -3,7 +3,7 @@ use Prim.Native.Nat.{ℕ, ◌≤◌}
 use mathlib.Core.Path.{◌≡◌, refl, ap}
 use mathlib.Core.Bool.{Bool, true, false}
 use mathlib.Core.List.{List}
-use mathlib.Core.Option.{some}
+use Rattle.std.specs.Prelude.{Some}
 use native.Mathlib.Omega.{arith}
 use lib.Dec.{eqb}
 use lib.ListN.{length, length-append, length-replicate}
@@ -73,7 +73,7 @@ module _ (p : Player) (e : Event) (ts : List (List (List ℕ))) (rows : List (Li
       → read ≡ counted p.line → place ≡ counted p.step
       → inside ≡ inside_up_to r.rig r.rig.size → waiting ≡ waiting_count r.rig
       → Printed (step_line place r.code inside waiting r.count) page after n
-      → GivesOutcome (on_event (text p ts rows) (some e)) (text (next p r read place) ts' rows') page after n
+      → GivesOutcome (on_event (text p ts rows) (Some e)) (text (next p r read place) ts' rows') page after n
       × PlayerFits (next p r read place) ts' rows'
   unfolding on_event printed_line line_of
   plays n read place inside waiting fits s z f g i w line = (

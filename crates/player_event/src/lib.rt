@@ -2,7 +2,7 @@
 #![tactic(auto)]
 
 ghost use Rattle.std.specs.Prelude.{◌≡◌};
-ghost use Rattle.std.proofs.Math.Option.{some};
+ghost use Rattle.std.specs.Prelude.{Some};
 ghost use Rattle.model.specs.Event.{event};
 ghost use Rattle.list_rows.specs.Rows.{ZeroPast};
 ghost use Rattle.list_rows.specs.State.{stored, before as state_before, after};
@@ -45,7 +45,7 @@ pub fn play_event(
     e: Event,
 ) -> Said
     requires { HoldsAt Events p tables.old list.old }
-    ensures { Gives (on_event (before p tables list) (some e)) result tables list page }
+    ensures { Gives (on_event (before p tables list) (Some e)) result tables list page }
 {
     let r = next_state(p.tested, p.rig, tables, list, p.count, e);
     let place = one_more(p.step);

@@ -4,7 +4,7 @@ use mathlib.Core.Path.{◌≡◌, refl, ◌∙◌}
 use mathlib.Core.Bool.{false}
 use mathlib.Core.List.{List}
 use mathlib.Core.Logic.{inl, inr}
-use mathlib.Core.Option.{none, some}
+use Rattle.std.specs.Prelude.{Some, None}
 use native.Mathlib.Omega.{arith}
 use lib.ListN.{length, set}
 use Rattle.rig.specs.declared.Event.{Event}
@@ -79,7 +79,7 @@ module _ {p : Player} {ts₀ ts : List (List (List ℕ))} {rows₀ rows : List (
   turn-accepted = accepted-high g ts 0 rows n go.playable.shaped
 
   -- an event's line
-  module _ (e : Event) {end : ℕ} (found : LineTo end read bytes) (is : event_in (meaning_of (between read end bytes)) ≡ some e)
+  module _ (e : Event) {end : ℕ} (found : LineTo end read bytes) (is : event_in (meaning_of (between read end bytes)) ≡ Some e)
       (r : Done) {ts' : List (List (List ℕ))} {rows' : List (List ℕ)} (j m : ℕ) (place : j ≡ place_of g.size (actor e))
       (left : Left (event_at g.accepted (desk_from g ts (actor e) j) (messages_in n rows) e) (actor e) n ts ts' rows rows' r)
       (counts : m ≡ counted_on g.accepted r.code) where
@@ -111,7 +111,7 @@ module _ {p : Player} {ts₀ ts : List (List (List ℕ))} {rows₀ rows : List (
         }
 
   -- any other line
-  pub turn-stops : {end : ℕ} → LineTo end read bytes → event_in (meaning_of (between read end bytes)) ≡ none
+  pub turn-stops : {end : ℕ} → LineTo end read bytes → event_in (meaning_of (between read end bytes)) ≡ None
       → {out' : List ℕ} (r : Stretch) → Stops (player_at p line step g n) to (end + 1) out out' r
       → Stretches p ts₀ ts rows₀ rows bytes from out₀ out' at r
   turn-stops {end} found is r s =

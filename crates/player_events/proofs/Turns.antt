@@ -2,7 +2,7 @@
 use Prim.Native.Nat.{ℕ}
 use mathlib.Core.Path.{◌≡◌, ap}
 use mathlib.Core.List.{List}
-use mathlib.Core.Option.{none, some}
+use Rattle.std.specs.Prelude.{Some, None}
 use borrow.Author.Tests.{eq-eqb}
 use Rattle.rig.specs.declared.Event.{Event}
 use Rattle.rig.specs.declared.Rig.{Rig}
@@ -26,7 +26,7 @@ module _ (p : Player) (line step : ℕ) (g : Rig) (n : ℕ) (ts : List (List (Li
 
   module _ (e : Event) (g' : Rig) (n' code : ℕ) (ts' : List (List (List ℕ))) (rows' : List (List ℕ)) (playable : Playable (stored g ts rows n))
       (s : answer code (stored g' ts' rows' n') ≡ played (stored g ts rows n) e) where
-    pub event-line : {line' step' inside waiting : ℕ} → event_in (meaning_of l) ≡ some e → line' ≡ counted line → step' ≡ counted step
+    pub event-line : {line' step' inside waiting : ℕ} → event_in (meaning_of l) ≡ Some e → line' ≡ counted line → step' ≡ counted step
         → inside ≡ inside_up_to g' g'.size → waiting ≡ waiting_count g'
         → on_line t l ≡ outcome (step_line step' code inside waiting n') (text (player_at p line' step' g' n') ts' rows')
     unfolding on_line at_stage on_event printed_line line_of event tested
@@ -35,6 +35,6 @@ module _ (p : Player) (line step : ℕ) (g : Rig) (n : ℕ) (ts : List (List (Li
     pub event-playable : Playable (stored g' ts' rows' n')
     event-playable = rw (ap (λ (a : Answer). a.next) s) (playable-next (stored g ts rows n) e playable)
 
-  pub other-line : event_in (meaning_of l) ≡ none → on_line t l ≡ outcome (stop_line 11 (counted line)) (text (over (player_at p line step g n)) ts rows)
+  pub other-line : event_in (meaning_of l) ≡ None → on_line t l ≡ outcome (stop_line 11 (counted line)) (text (over (player_at p line step g n)) ts rows)
   unfolding on_line at_stage on_event stopped
   other-line is = rw is

@@ -2,7 +2,7 @@
 use Prim.Native.Nat.{ℕ, suc, ◌+◌, ◌-◌, ◌≤◌, ◌<◌}
 use mathlib.Core.Bool.{Bool, true, false, ◌&&◌, cond}
 use mathlib.Core.List.{List, [], ◌∷◌}
-use mathlib.Core.Path.{◌≡◌, refl, sym, ◌∙◌}
+use mathlib.Core.Path.{◌≡◌, refl, sym, ap, ◌∙◌}
 use native.Mathlib.Numerals.{add-one}
 use native.Mathlib.Omega.{arith}
 use borrow.Author.Tests.{ltb-true, ltb-false, le-leb, lt-leb, eqb-true}
@@ -10,13 +10,14 @@ use lib.Bits.{bit_or}
 use lib.Dec.{leb, ltb, eqb}
 use lib.ListN.{length, take, drop, length-drop}
 use lib.Seq.{take_all, take-length, drop-drop}
-use Rattle.std.specs.Prelude.{Option, Some, None, MatchOption}
+use Rattle.std.specs.Prelude.{Option, Some, None, MatchOption, IsSomeAnd}
+use Rattle.std.specs.Option.{option_map}
 use Rattle.basics.proofs.Basics.{by_bool, and_second}
 use Rattle.byte_scan.specs.Bytes.{index_after, index_of, slice}
 use Rattle.player_numbers.specs.Numbers.{is_digit, all_digits, no_leading_zero, number}
 use Rattle.player_grammar.specs.Grammar.{longer, parts, before, all_numbers, numbers, ascends, site_bit, with_sites, set_line, one, move_line}
 use Rattle.player_grammar.specs.declared.Line.{Line}
-use Rattle.player_grammar.specs.declared.Line.TheVariants.{Set, Move, Malformed}
+use Rattle.player_grammar.specs.declared.Line.TheVariants.{Set, Move}
 
 -- where the first comma is
 abbrev pub comma : List ℕ → ℕ
@@ -65,38 +66,35 @@ comma-no-number : (bs : List ℕ) → comma bs < length bs → number bs ≡ Non
 unfolding number
 comma-no-number bs h = rw (comma-no-digit bs h, and_second (no_leading_zero bs) false refl)
 
-abbrev pub one_of : (ℕ → Line) → Option ℕ → Line
-one_of line (Some n) = line n
-one_of line None = Malformed
-
 module _ (line : ℕ → Line) where
-  one-before : (x : Option ℕ) → one line (before x (Some [])) ≡ one_of line x
+  one-before : (x : Option ℕ) → one line (before x (Some [])) ≡ option_map line x
   unfolding one before
   one-before (Some n) = refl
   one-before None = refl
 
-  more-than-one : (x y : Option ℕ) (ns : Option (List ℕ)) → one line (before x (before y ns)) ≡ Malformed
+  more-than-one : (x y : Option ℕ) (ns : Option (List ℕ)) → one line (before x (before y ns)) ≡ None
   unfolding one before
   more-than-one (Some n) (Some m) (Some ns) = refl
   more-than-one (Some n) (Some m) None = refl
   more-than-one (Some n) None ns = refl
   more-than-one None y ns = refl
 
-  after-comma : (x : Option ℕ) (bs : List ℕ) → one line (before x (numbers bs)) ≡ Malformed
+  after-comma : (x : Option ℕ) (bs : List ℕ) → one line (before x (numbers bs)) ≡ None
   after-comma x bs =
       by_bool (ltb (comma bs) (length bs))
       (λ e. rw (numbers-comma bs (ltb-true _ _ e)) (more-than-one x _ _))
       (λ e. rw (numbers-last bs (ltb-false _ _ e)) (more-than-one x _ _))
 
-  pub one_number : (bs : List ℕ) → one line (numbers bs) ≡ one_of line (number bs)
+  pub one_number : (bs : List ℕ) → one line (numbers bs) ≡ option_map line (number bs)
   one_number bs =
       by_bool (ltb (comma bs) (length bs))
       (λ e. let h = ltb-true _ _ e in rw (numbers-comma bs h, comma-no-number bs h) (after-comma _ _))
       (λ e. rw (numbers-last bs (ltb-false _ _ e)) (one-before (number bs)))
 
   -- as the code reads it
-  pub read-one : (x : Option ℕ) (bs : List ℕ) (r : Line) → x ≡ number bs → MatchOption x (r ≡ Malformed) (λ n. r ≡ line n) → r ≡ one line (numbers bs)
-  read-one (Some n) bs r e h = h ∙ sym (one_number bs ∙ rw (← e) refl)
+  pub read-one : (x : Option ℕ) (bs : List ℕ) (r : Option Line) → x ≡ number bs → MatchOption x (r ≡ None) (λ n. IsSomeAnd r (λ m. m ≡ line n)) → r ≡ one line (numbers bs)
+  read-one (Some n) bs (Some m) e h = ap Some h ∙ sym (one_number bs ∙ rw (← e) refl)
+  read-one (Some n) bs None e h = absurd h
   read-one None bs r e h = h ∙ sym (one_number bs ∙ rw (← e) refl)
 
 -- A move: one number, a comma, and one number.
@@ -107,11 +105,11 @@ move-before a (Some []) = refl
 move-before a (Some (b ∷ [])) = refl
 move-before a (Some (b ∷ c ∷ ns)) = refl
 
-pub move-malformed : (ns : Option (List ℕ)) → move_line (before None ns) ≡ Malformed
+pub move-malformed : (ns : Option (List ℕ)) → move_line (before None ns) ≡ None
 unfolding move_line before
 move-malformed ns = refl
 
-pub move-single : (x : Option ℕ) → move_line (before x (Some [])) ≡ Malformed
+pub move-single : (x : Option ℕ) → move_line (before x (Some [])) ≡ None
 unfolding move_line before
 move-single (Some a) = refl
 move-single None = refl
@@ -121,9 +119,9 @@ abbrev rises : ℕ → List ℕ → Bool
 rises low [] = true
 rises low (n ∷ ns) = leb low n && rises (suc n) ns
 
-abbrev pub set_from : ℕ → ℕ → Option (List ℕ) → Line
-set_from low set None = Malformed
-set_from low set (Some ns) = cond (rises low ns) (Set (with_sites set ns)) Malformed
+abbrev pub set_from : ℕ → ℕ → Option (List ℕ) → Option Line
+set_from low set None = None
+set_from low set (Some ns) = cond (rises low ns) (Some (Set (with_sites set ns))) None
 
 ascends-rises : (a : ℕ) (ns : List ℕ) → ascends (a ∷ ns) ≡ rises (suc a) ns
 unfolding ascends
@@ -137,15 +135,15 @@ set-begun (Some []) = refl
 set-begun (Some (a ∷ ns)) = rw (ascends-rises a ns, le-leb 0 a (omega arith))
 
 module _ (low set : ℕ) where
-  pub set_ended : set_from low set (Some []) ≡ Set set
+  pub set_ended : set_from low set (Some []) ≡ Some (Set set)
   unfolding with_sites
   set_ended = refl
 
-  pub set-malformed : (ns : Option (List ℕ)) → set_from low set (before None ns) ≡ Malformed
+  pub set-malformed : (ns : Option (List ℕ)) → set_from low set (before None ns) ≡ None
   unfolding before
   set-malformed ns = refl
 
-  pub set-falls : (n : ℕ) (ns : Option (List ℕ)) → n < low → set_from low set (before (Some n) ns) ≡ Malformed
+  pub set-falls : (n : ℕ) (ns : Option (List ℕ)) → n < low → set_from low set (before (Some n) ns) ≡ None
   unfolding before
   set-falls n None h = refl
   set-falls n (Some ns) h = rw (lt-leb low n h)

@@ -4,7 +4,7 @@ use Rattle.std.specs.Int.Bits.{bit_or}
 use Rattle.rig.specs.Limits.{site_limit}
 use Rattle.player_numbers.specs.Numbers.{number}
 use Rattle.player_grammar.specs.declared.Line.{Line}
-use Rattle.player_grammar.specs.declared.Line.TheVariants.{Sites, Set, Ask, Leave, Move, Malformed}
+use Rattle.player_grammar.specs.declared.Line.TheVariants.{Sites, Set, Ask, Leave, Move}
 
 -- "A list is a number, or a number, a comma and a list": the parts that the commas (byte 44) separate, each a number.
 -- `longer b` puts the byte b in front of the first part.
@@ -47,22 +47,22 @@ with_sites set [] = set
 with_sites set (n ∷ ns) = with_sites (bit_or set (site_bit n)) ns
 
 -- what the numbers say behind `set=`; behind a word that takes exactly one; behind `move=`, which takes exactly two
-unfoldable pub set_line : Option (List ℕ) → Line
-set_line None = Malformed
-set_line (Some ns) = cond (ascends ns) (Set (with_sites 0 ns)) Malformed
+unfoldable pub set_line : Option (List ℕ) → Option Line
+set_line None = None
+set_line (Some ns) = cond (ascends ns) (Some (Set (with_sites 0 ns))) None
 
-unfoldable pub one : (ℕ → Line) → Option (List ℕ) → Line
-one line None = Malformed
-one line (Some []) = Malformed
-one line (Some (a ∷ [])) = line a
-one line (Some (a ∷ b ∷ ns)) = Malformed
+unfoldable pub one : (ℕ → Line) → Option (List ℕ) → Option Line
+one line None = None
+one line (Some []) = None
+one line (Some (a ∷ [])) = Some (line a)
+one line (Some (a ∷ b ∷ ns)) = None
 
-unfoldable pub move_line : Option (List ℕ) → Line
-move_line None = Malformed
-move_line (Some []) = Malformed
-move_line (Some (a ∷ [])) = Malformed
-move_line (Some (a ∷ b ∷ [])) = Move a b
-move_line (Some (a ∷ b ∷ c ∷ ns)) = Malformed
+unfoldable pub move_line : Option (List ℕ) → Option Line
+move_line None = None
+move_line (Some []) = None
+move_line (Some (a ∷ [])) = None
+move_line (Some (a ∷ b ∷ [])) = Some (Move a b)
+move_line (Some (a ∷ b ∷ c ∷ ns)) = None
 
 -- `sites=`, `set=`, `ask=`, `leave=`, `move=`
 abbrev pub sites_word : List ℕ
@@ -87,15 +87,15 @@ starts (w ∷ ws) [] = false
 starts (w ∷ ws) (b ∷ bs) = eqb b w && starts ws bs
 
 -- "events `ask=s`, `leave=s`, `move=a,b`": one of the three words, and what is behind it
-unfoldable pub event_form : List ℕ → Line
+unfoldable pub event_form : List ℕ → Option Line
 event_form line =
     cond (starts ask_word line) (one Ask (numbers (drop 4 line)))
     (cond (starts leave_word line) (one Leave (numbers (drop 6 line)))
     (cond (starts move_word line) (move_line (numbers (drop 5 line)))
-    Malformed))
+    None))
 
 -- "`sites=`, then N lines `set=`, then events"
-unfoldable pub form : List ℕ → Line
+unfoldable pub form : List ℕ → Option Line
 form line =
     cond (starts sites_word line) (one Sites (numbers (drop 6 line)))
     (cond (starts set_word line) (set_line (numbers (drop 4 line)))
@@ -105,5 +105,5 @@ form line =
 abbrev pub line_limit : ℕ
 line_limit = 96
 
-unfoldable pub meaning_of : List ℕ → Line
-meaning_of line = cond (leb (length line) line_limit) (form line) Malformed
+unfoldable pub meaning_of : List ℕ → Option Line
+meaning_of line = cond (leb (length line) line_limit) (form line) None

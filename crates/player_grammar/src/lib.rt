@@ -10,6 +10,7 @@ use rig::Rig;
 // The bytes that a line may have before its byte 10.
 pub const LINE_LIMIT: usize = 96;
 
+// What a line may say.
 #[derive(Clone, Copy)]
 pub enum Line {
     Sites(u64),
@@ -17,7 +18,6 @@ pub enum Line {
     Ask(u64),
     Leave(u64),
     Move(u64, u64),
-    Malformed,
 }
 
 // A number's bit in a set.
@@ -34,7 +34,7 @@ fn site_bit(n: u64) -> u64
 }
 
 // The list behind `set=`: `at` is where the next number starts, `low` the least that may follow.
-fn set_line(list: &[u8]) -> Line
+fn set_line(list: &[u8]) -> Option<Line>
     ensures { result ≡ set_line (numbers list.now) }
 {
     let mut at = 0;
@@ -42,61 +42,55 @@ fn set_line(list: &[u8]) -> Line
     let mut set = 0;
     while at <= list.len() {
         let end = byte_scan::find(list, at, list.len(), b',');
-        let Some(n) = read_number(&list[at..end]) else {
-            return Line::Malformed;
-        };
+        let n = read_number(&list[at..end])?;
         if n < low {
-            return Line::Malformed;
+            return None;
         }
         set |= site_bit(n);
         low = n + 1;
         at = end + 1;
     }
-    Line::Set(set)
+    Some(Line::Set(set))
 }
 
 // The two numbers behind `move=`.
-fn move_line(list: &[u8]) -> Line
+fn move_line(list: &[u8]) -> Option<Line>
     ensures { result ≡ move_line (numbers list.now) }
 {
     let end = byte_scan::find(list, 0, list.len(), b',');
     if end >= list.len() {
-        return Line::Malformed;
+        return None;
     }
-    let Some(a) = read_number(&list[..end]) else {
-        return Line::Malformed;
-    };
-    let Some(b) = read_number(&list[end + 1..]) else {
-        return Line::Malformed;
-    };
-    Line::Move(a, b)
+    let a = read_number(&list[..end])?;
+    let b = read_number(&list[end + 1..])?;
+    Some(Line::Move(a, b))
 }
 
-// What a line means that is an event's, if it means anything.
-fn event_line(line: &[u8]) -> Line
+// What a line means that is an event's, if it is one.
+fn event_line(line: &[u8]) -> Option<Line>
     ensures { result ≡ event_form line.now }
 {
     if let Some(list) = line.strip_prefix(b"ask=") {
-        return read_number(list).map_or(Line::Malformed, Line::Ask);
+        return read_number(list).map(Line::Ask);
     }
     if let Some(list) = line.strip_prefix(b"leave=") {
-        return read_number(list).map_or(Line::Malformed, Line::Leave);
+        return read_number(list).map(Line::Leave);
     }
     if let Some(list) = line.strip_prefix(b"move=") {
         return move_line(list);
     }
-    Line::Malformed
+    None
 }
 
-// What a line means.
-pub fn meaning(line: &[u8]) -> Line
+// What a line means, if anything.
+pub fn meaning(line: &[u8]) -> Option<Line>
     ensures { result ≡ meaning_of line.now }
 {
     if line.len() > LINE_LIMIT {
-        return Line::Malformed;
+        return None;
     }
     if let Some(list) = line.strip_prefix(b"sites=") {
-        return read_number(list).map_or(Line::Malformed, Line::Sites);
+        return read_number(list).map(Line::Sites);
     }
     if let Some(list) = line.strip_prefix(b"set=") {
         return set_line(list);

@@ -10,22 +10,24 @@ use player_event::play_event;
 use player_grammar::{Line, meaning};
 use player_printing::{Page, stop_line};
 use player_setup::{on_set, on_size};
-use player_text::{Player, Said, Stage, one_more, stop};
-use rig::{Event, Tables};
+use player_text::{Player, Said, Stage, event_in, one_more, stop};
+use rig::Tables;
 
 // A line behind the sets.
-fn on_event(p: Player, tables: &mut Tables, list: &mut Rows, page: &mut Page, m: Line) -> Said
+fn on_event(
+    p: Player,
+    tables: &mut Tables,
+    list: &mut Rows,
+    page: &mut Page,
+    m: Option<Line>,
+) -> Said
     requires { HoldsAt Events p tables.old list.old }
     ensures { Gives (on_event (before p tables list) (event_in m)) result tables list page }
 {
-    match m {
-        Line::Ask(s) => play_event(p, tables, list, page, Event::Ask(s)),
-        Line::Leave(s) => play_event(p, tables, list, page, Event::Leave(s)),
-        Line::Move(a, b) => play_event(p, tables, list, page, Event::Deliver(a, b)),
-        Line::Sites(n) => stop(p, page, 11, one_more(p.line)),
-        Line::Set(s) => stop(p, page, 11, one_more(p.line)),
-        Line::Malformed => stop(p, page, 11, one_more(p.line)),
-    }
+    let Some(e) = event_in(m) else {
+        return stop(p, page, 11, one_more(p.line));
+    };
+    play_event(p, tables, list, page, e)
 }
 
 // An inner call: one line, its bytes before byte 10. The player and what it is lent are as `begin` or an earlier line left them.

@@ -1,7 +1,7 @@
 -- What `find` finds.
 use Prim.Native.Nat.{ℕ, ◌+◌}
 use mathlib.Core.List.{List}
-use mathlib.Core.Option.{Option, none, some}
+use Rattle.std.specs.Prelude.{Option, Some, None}
 use mathlib.Core.Path.{◌≡◌}
 use lib.ListN.{length, drop}
 use lib.Seq.{take-length}
@@ -17,5 +17,5 @@ unfolding slice
 found bytes from end h = rw (take-length bytes) at h
 
 pub finds : (bytes : List ℕ) (from end : ℕ) → LineTo end from bytes → (o : Option Event) → event_in (meaning_of (between from end bytes)) ≡ o → Finds bytes from (line_to o end)
-finds bytes from end l none e = (l, e)
-finds bytes from end l (some x) e = (l, e)
+finds bytes from end l None e = (l, e)
+finds bytes from end l (Some x) e = (l, e)

@@ -1,6 +1,5 @@
 -- The line that starts at a place of a text.
-use Rattle.std.specs.Prelude.{ℕ, ◌+◌, ◌-◌, ◌<◌, ◌≤◌, List, ◌≡◌, length, take, drop}
-use Rattle.std.proofs.Math.Option.{Option, none, some}
+use Rattle.std.specs.Prelude.{ℕ, ◌+◌, ◌-◌, ◌<◌, ◌≤◌, List, ◌≡◌, length, take, drop, Option, Some, None}
 use Rattle.byte_scan.specs.Bytes.{index_of}
 use Rattle.rig.specs.declared.Event as R
 use Rattle.player_grammar.specs.Grammar.{meaning_of}
@@ -23,11 +22,11 @@ NoLine bytes from = length (drop from bytes) ≤ index_of 10 (drop from bytes)
 
 -- what a line that ends at `end` is, by its event
 abbrev pub line_to : Option R.Event → ℕ → Next
-line_to none end = Other end
-line_to (some e) end = Event e end
+line_to None end = Other end
+line_to (Some e) end = Event e end
 
 -- what is found at a place
 abbrev pub Finds : List ℕ → ℕ → Next → Type 0
-Finds bytes from (Event e end) = LineTo end from bytes × (event_in (meaning_of (between from end bytes)) ≡ some e)
-Finds bytes from (Other end) = LineTo end from bytes × (event_in (meaning_of (between from end bytes)) ≡ none)
+Finds bytes from (Event e end) = LineTo end from bytes × (event_in (meaning_of (between from end bytes)) ≡ Some e)
+Finds bytes from (Other end) = LineTo end from bytes × (event_in (meaning_of (between from end bytes)) ≡ None)
 Finds bytes from Nothing = NoLine bytes from

@@ -6,6 +6,7 @@ ghost use Rattle.player_text.specs.Player.{event_in};
 ghost use Rattle.player_next.specs.Lines.{line_to, Finds};
 
 use player_grammar::{Line, meaning};
+use player_text::event_in;
 use rig::Event;
 
 // What stands at a place of the text: a whole line with an event, or another whole line, each with the place of its byte 10; or no whole line.
@@ -17,16 +18,12 @@ pub enum Next {
 }
 
 // What a line means that ends at `end`.
-fn line_to(m: Line, end: usize) -> Next
+fn line_to(m: Option<Line>, end: usize) -> Next
     ensures { result ≡ line_to (event_in m) end }
 {
-    match m {
-        Line::Ask(s) => Next::Event(Event::Ask(s), end),
-        Line::Leave(s) => Next::Event(Event::Leave(s), end),
-        Line::Move(a, b) => Next::Event(Event::Deliver(a, b), end),
-        Line::Sites(n) => Next::Other(end),
-        Line::Set(s) => Next::Other(end),
-        Line::Malformed => Next::Other(end),
+    match event_in(m) {
+        Some(e) => Next::Event(e, end),
+        None => Next::Other(end),
     }
 }
 

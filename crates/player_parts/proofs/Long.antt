@@ -8,14 +8,14 @@ use lib.Dec.{eqb, leb}
 use lib.ListN.{length, length-append}
 use Rattle.basics.proofs.Basics.{by_bool}
 use Rattle.player_grammar.specs.Grammar.{line_limit, meaning_of}
-use Rattle.player_grammar.specs.declared.Line.TheVariants.{Malformed}
+use Rattle.std.specs.Prelude.{None}
 use Rattle.player_text.specs.declared.Stage.{Stage}
 use Rattle.player_text.specs.declared.Stage.TheVariants.{Size, Sets, Events, Over}
 use Rattle.player_text.specs.Player.{Text, stopped, size_in, set_in, event_in, on_size, on_set, on_event, at_stage, on_line, ends_at, on_end, transcript}
 use Rattle.player_text.proofs.Stages.{line-over, end-over}
 use Rattle.player_parts.specs.Parts.{reads}
 
-too_long : (line : List ℕ) → line_limit < length line → meaning_of line ≡ Malformed
+too_long : (line : List ℕ) → line_limit < length line → meaning_of line ≡ None
 unfolding meaning_of
 too_long line h = rw (lt-leb (length line) line_limit h)
 
@@ -25,14 +25,14 @@ unfolding on_line
 long-alike p line other g h = ap (λ m. at_stage p.stage p m) (too_long line g ∙ sym (too_long other h))
 
 -- a malformed line ends the run, and prints what the end of the input prints inside a line
-malformed-ends : (s : Stage) (p : Text) → p.stage ≡ s → (at_stage s p Malformed).next.stage ≡ Over
+malformed-ends : (s : Stage) (p : Text) → p.stage ≡ s → (at_stage s p None).next.stage ≡ Over
 unfolding at_stage on_size on_set on_event size_in set_in event_in stopped
 malformed-ends Size p e = refl
 malformed-ends Sets p e = refl
 malformed-ends Events p e = refl
 malformed-ends Over p e = e
 
-malformed-said : (s : Stage) (p : Text) (line : List ℕ) → 0 < length line → ends_at s p line ≡ (at_stage s p Malformed).said
+malformed-said : (s : Stage) (p : Text) (line : List ℕ) → 0 < length line → ends_at s p line ≡ (at_stage s p None).said
 unfolding at_stage on_size on_set on_event size_in set_in event_in stopped ends_at
 malformed-said Size p line h = refl
 malformed-said Sets p line h = refl

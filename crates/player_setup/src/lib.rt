@@ -9,17 +9,17 @@ ghost use Rattle.player_text.specs.Calls.{BeforeEvents};
 
 use player_grammar::Line;
 use player_printing::Page;
-use player_text::{Player, Said, Stage, one_more, stop};
+use player_text::{Player, Said, Stage, one_more, set_in, size_in, stop};
 use rig::Rig;
 use setup::setup;
 use setup_faults::fault_line;
 
 // The first line.
-pub fn on_size(p: Player, page: &mut Page, m: Line) -> Said
+pub fn on_size(p: Player, page: &mut Page, m: Option<Line>) -> Said
     ensures { BeforeEvents Size (λ t. on_size t (size_in m)) p page.old page.new result }
 {
     let place = one_more(p.line);
-    let Line::Sites(n) = m else {
+    let Some(n) = size_in(m) else {
         return stop(p, page, 11, place);
     };
     if n < 1 {
@@ -28,23 +28,14 @@ pub fn on_size(p: Player, page: &mut Page, m: Line) -> Said
     if n > Rig::SITES as u64 {
         return stop(p, page, 1, place);
     }
-    let sets = p.sets;
-    let rig = p.rig;
-    let next = Player {
+    let player = Player {
         stage: Stage::Sets,
         line: place,
-        step: p.step,
         size: n,
         given: 0,
-        sets,
-        rig,
-        count: p.count,
-        tested: p.tested,
+        ..p
     };
-    Said {
-        player: next,
-        printed: 0,
-    }
+    Said { player, printed: 0 }
 }
 
 // All sets are there. The run begins, or ends with 2, 3 or 17.
@@ -56,32 +47,27 @@ fn all_given(p: Player, page: &mut Page, sets: [u64; Rig::SITES]) -> Said
     if made.code != 0 {
         return stop(p, page, made.code, fault_line(p.size, &sets));
     }
-    let rig = made.rig;
     let place = one_more(p.line);
-    let next = Player {
+    let player = Player {
         stage: Stage::Events,
         line: place,
-        step: p.step,
-        size: p.size,
         given: p.size,
         sets,
-        rig,
+        rig: made.rig,
         count: 0,
         tested: false,
+        ..p
     };
-    Said {
-        player: next,
-        printed: 0,
-    }
+    Said { player, printed: 0 }
 }
 
 // An inner call: one of the N lines behind the first.
-pub fn on_set(p: Player, page: &mut Page, m: Line) -> Said
+pub fn on_set(p: Player, page: &mut Page, m: Option<Line>) -> Said
     requires { (p.size ≤ site_limit) × (p.given < p.size) }
     ensures { BeforeEvents Sets (λ t. on_set t (set_in m)) p page.old page.new result }
 {
     let place = one_more(p.line);
-    let Line::Set(set) = m else {
+    let Some(set) = set_in(m) else {
         return stop(p, page, 11, place);
     };
     let mut sets = p.sets;
@@ -90,20 +76,12 @@ pub fn on_set(p: Player, page: &mut Page, m: Line) -> Said
     if given >= p.size {
         return all_given(p, page, sets);
     }
-    let rig = p.rig;
-    let next = Player {
+    let player = Player {
         stage: Stage::Sets,
         line: place,
-        step: p.step,
-        size: p.size,
         given,
         sets,
-        rig,
-        count: p.count,
-        tested: p.tested,
+        ..p
     };
-    Said {
-        player: next,
-        printed: 0,
-    }
+    Said { player, printed: 0 }
 }

@@ -3,7 +3,7 @@ use Prim.Native.Nat.{ℕ, ◌+◌, ◌≤◌, ◌<◌}
 use mathlib.Core.Path.{◌≡◌, refl}
 use mathlib.Core.Bool.{false}
 use mathlib.Core.List.{List, [], map}
-use mathlib.Core.Option.{some}
+use Rattle.std.specs.Prelude.{Some}
 use native.Mathlib.Numerals.{add-one}
 use lib.ListN.{set}
 use borrow.Author.Tests.{le-leb, lt-ltb}
@@ -47,14 +47,14 @@ module _ (p : Player) {page : List ℕ} (ts : List (List (List ℕ))) (rows : Li
   module _ (untouched : Untouched ts rows) (place : ℕ) (counts : place ≡ counted p.line) where
     -- `sites=`
     pub takes-size : (n : ℕ) → 1 ≤ n → n ≤ site_limit
-        → GivesOutcome (on_size (text p ts rows) (some n)) (text (sized p place n) ts rows) page page 0
+        → GivesOutcome (on_size (text p ts rows) (Some n)) (text (sized p place n) ts rows) page page 0
         × PlayerFits (sized p place n) ts rows
     unfolding on_size size_listed
     takes-size n low high = rw (counts, le-leb 1 n low, le-leb n site_limit high) (record { known = refl; printed = nothing }, record { fits = (untouched, high, low) })
 
     -- one of the sets, not the last
     pub takes-set : (v : ℕ) → p.size ≤ site_limit → p.given + 1 < p.size
-        → GivesOutcome (on_set (text p ts rows) (some v)) (text (longer p place (set p.sets p.given v)) ts rows) page page 0
+        → GivesOutcome (on_set (text p ts rows) (Some v)) (text (longer p place (set p.sets p.given v)) ts rows) page page 0
         × PlayerFits (longer p place (set p.sets p.given v)) ts rows
     unfolding on_set put
     takes-set v high less = rw (counts, lt-ltb (p.given + 1) p.size less) (record { known = rw add-one; printed = nothing }, record { fits = (untouched, high, less) })

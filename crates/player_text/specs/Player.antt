@@ -1,6 +1,5 @@
 -- Document 01, "The player": what a text of events prints, line by line.
-use Rattle.std.specs.Prelude.{ℕ, ◌+◌, cond, List, [], ◌∷◌, ◌++◌, eqb, ltb, replicate}
-use Rattle.std.proofs.Math.Option.{Option, none, some}
+use Rattle.std.specs.Prelude.{ℕ, ◌+◌, cond, List, [], ◌∷◌, ◌++◌, eqb, ltb, replicate, Option, Some, None}
 use Rattle.rig.specs.declared.Event.{Event}
 use Rattle.rig.specs.declared.Event.TheVariants.{Ask as AskBy, Leave as LeaveBy, Deliver}
 use Rattle.rig.specs.Limits.{site_limit, message_limit, blank_tables}
@@ -13,7 +12,7 @@ use Rattle.model.specs.Printed.{line_of}
 use Rattle.setup_faults.specs.Faults.{fault_line}
 use Rattle.player_grammar.specs.Grammar.{meaning_of}
 use Rattle.player_grammar.specs.declared.Line.{Line}
-use Rattle.player_grammar.specs.declared.Line.TheVariants.{Sites, Set, Ask, Leave, Move, Malformed}
+use Rattle.player_grammar.specs.declared.Line.TheVariants.{Sites, Set, Ask, Leave, Move}
 use Rattle.player_printing.specs.Printing.{step_line, stop_line}
 use Rattle.player_text.specs.declared.Stage.{Stage}
 use Rattle.player_text.specs.declared.Stage.TheVariants.{Size, Sets, Events, Over}
@@ -45,34 +44,34 @@ unfoldable pub stopped : Text → ℕ → ℕ → Outcome
 stopped p code line = outcome (stop_line code line) (record { stage = Over; line = p.line; step = p.step; size = p.size; given = p.given; sets = p.sets; state = p.state })
 
 -- "11 if it is not of the form below, comes at the wrong place": what a line says where it is at its place
-unfoldable pub size_in : Line → Option ℕ
-size_in (Sites n) = some n
-size_in (Set s) = none
-size_in (Ask s) = none
-size_in (Leave s) = none
-size_in (Move a b) = none
-size_in Malformed = none
+unfoldable pub size_in : Option Line → Option ℕ
+size_in (Some (Sites n)) = Some n
+size_in (Some (Set s)) = None
+size_in (Some (Ask s)) = None
+size_in (Some (Leave s)) = None
+size_in (Some (Move a b)) = None
+size_in None = None
 
-unfoldable pub set_in : Line → Option ℕ
-set_in (Sites n) = none
-set_in (Set s) = some s
-set_in (Ask s) = none
-set_in (Leave s) = none
-set_in (Move a b) = none
-set_in Malformed = none
+unfoldable pub set_in : Option Line → Option ℕ
+set_in (Some (Sites n)) = None
+set_in (Some (Set s)) = Some s
+set_in (Some (Ask s)) = None
+set_in (Some (Leave s)) = None
+set_in (Some (Move a b)) = None
+set_in None = None
 
-unfoldable pub event_in : Line → Option Event
-event_in (Sites n) = none
-event_in (Set s) = none
-event_in (Ask s) = some (AskBy s)
-event_in (Leave s) = some (LeaveBy s)
-event_in (Move a b) = some (Deliver a b)
-event_in Malformed = none
+unfoldable pub event_in : Option Line → Option Event
+event_in (Some (Sites n)) = None
+event_in (Some (Set s)) = None
+event_in (Some (Ask s)) = Some (AskBy s)
+event_in (Some (Leave s)) = Some (LeaveBy s)
+event_in (Some (Move a b)) = Some (Deliver a b)
+event_in None = None
 
 -- "line 1 for code 1, given before a later line is read"
 unfoldable pub on_size : Text → Option ℕ → Outcome
-on_size p none = stopped p 11 (counted p.line)
-on_size p (some n) =
+on_size p None = stopped p 11 (counted p.line)
+on_size p (Some n) =
     cond (size_listed n)
     (outcome [] (record { stage = Sets; line = counted p.line; step = p.step; size = n; given = 0; sets = p.sets; state = p.state }))
     (stopped p 1 (counted p.line))
@@ -85,8 +84,8 @@ all_given p sets =
     (stopped p (setup_code p.size sets) (fault_line p.size sets))
 
 unfoldable pub on_set : Text → Option ℕ → Outcome
-on_set p none = stopped p 11 (counted p.line)
-on_set p (some set) =
+on_set p None = stopped p 11 (counted p.line)
+on_set p (Some set) =
     let k = p.given + 1 in
     let sets = put p.sets k set in
     cond (ltb k p.size)
@@ -98,14 +97,14 @@ unfoldable pub printed_line : ℕ → Answer → List ℕ
 printed_line place a = let l = line_of place a in step_line l.step l.code l.inside l.waiting l.flying
 
 unfoldable pub on_event : Text → Option Event → Outcome
-on_event p none = stopped p 11 (counted p.line)
-on_event p (some e) =
+on_event p None = stopped p 11 (counted p.line)
+on_event p (Some e) =
     let a = event p.state e in
     let place = counted p.step in
     outcome (printed_line place a) (record { stage = Events; line = counted p.line; step = place; size = p.size; given = p.given; sets = p.sets; state = a.next })
 
 -- one line: "`sites=`, then N lines `set=`, then events"; nothing is read once the run has ended
-unfoldable pub at_stage : Stage → Text → Line → Outcome
+unfoldable pub at_stage : Stage → Text → Option Line → Outcome
 at_stage Size p m = on_size p (size_in m)
 at_stage Sets p m = on_set p (set_in m)
 at_stage Events p m = on_event p (event_in m)

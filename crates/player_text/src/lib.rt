@@ -3,11 +3,12 @@
 
 ghost use Rattle.std.specs.Prelude.{◌≡◌};
 ghost use Rattle.player_printing.specs.Printing.{stop_line, Printed};
-ghost use Rattle.player_text.specs.Player.{counted};
+ghost use Rattle.player_text.specs.Player.{counted, size_in, set_in, event_in};
 ghost use Rattle.player_text.specs.Calls.{beginning, over};
 
+use player_grammar::Line;
 use player_printing::{Page, stop_line};
-use rig::Rig;
+use rig::{Event, Rig};
 use setup::resting;
 
 // Which line comes next: `sites=`, a `set=`, an event, or none, since the run has ended.
@@ -49,6 +50,39 @@ pub fn one_more(n: u64) -> u64
     if n == u64::MAX { n } else { n + 1 }
 }
 
+// The number of a line `sites=`.
+pub fn size_in(m: Option<Line>) -> Option<u64>
+    ensures { result ≡ size_in m }
+{
+    match m? {
+        Line::Sites(n) => Some(n),
+        _ => None,
+    }
+}
+
+// The set of a line `set=`.
+pub fn set_in(m: Option<Line>) -> Option<u64>
+    ensures { result ≡ set_in m }
+{
+    match m? {
+        Line::Set(set) => Some(set),
+        _ => None,
+    }
+}
+
+// The event of a line.
+pub fn event_in(m: Option<Line>) -> Option<Event>
+    ensures { result ≡ event_in m }
+{
+    match m? {
+        Line::Ask(s) => Some(Event::Ask(s)),
+        Line::Leave(s) => Some(Event::Leave(s)),
+        Line::Move(a, b) => Some(Event::Deliver(a, b)),
+        Line::Sites(_) => None,
+        Line::Set(_) => None,
+    }
+}
+
 // The player before its first line.
 pub fn begin() -> Player
     ensures { result ≡ beginning }
@@ -70,22 +104,11 @@ pub fn begin() -> Player
 pub fn stop(p: Player, page: &mut Page, code: u64, line: u64) -> Said
     ensures { (result.player ≡ over p) × Printed (stop_line code line) page.old page.new result.printed }
 {
-    let n = stop_line(page, code, line);
-    let sets = p.sets;
-    let rig = p.rig;
-    let next = Player {
-        stage: Stage::Over,
-        line: p.line,
-        step: p.step,
-        size: p.size,
-        given: p.given,
-        sets,
-        rig,
-        count: p.count,
-        tested: p.tested,
-    };
     Said {
-        player: next,
-        printed: n,
+        player: Player {
+            stage: Stage::Over,
+            ..p
+        },
+        printed: stop_line(page, code, line),
     }
 }

@@ -12,6 +12,7 @@ use Rattle.model.specs.Sets.{member, set_of}
 use Rattle.model.specs.State.{has_member}
 use Rattle.model.specs.Tables.{at}
 use Rattle.model.specs.Setup.{resting_site, free_arbiter}
+use Rattle.std.specs.Prelude.{Option}
 use Rattle.player_grammar.specs.declared.Line.{Line}
 use Rattle.player_text.specs.Player.{set_in}
 use Rattle.save_lines.specs.Lines.{lines_in}
@@ -27,7 +28,7 @@ use Rattle.save_reading.proofs.Places.{line-at, numbers-at}
 use Rattle.save_reading.proofs.Arrays.{part_of, part-more, array-more}
 
 -- a set more
-module _ (text : List ℕ) (i : ℕ) (next : ℕ) (start : next ≡ line_start text (suc i)) (taken : Taken Line) (e : taken ≡ meant_here text next) where
+module _ (text : List ℕ) (i : ℕ) (next : ℕ) (start : next ≡ line_start text (suc i)) (taken : Taken (Option Line)) (e : taken ≡ meant_here text next) where
   pub behind-set : taken.next ≡ line_start text (suc (suc i))
   unfolding line_start
   behind-set = rw (e, start)

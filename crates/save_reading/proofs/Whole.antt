@@ -16,6 +16,7 @@ use Rattle.rig.specs.Limits.{site_limit, message_limit}
 use Rattle.model.specs.Event.{padded}
 use Rattle.list_rows.specs.Rows.{row_of, message_of, zero_row, ZeroPast}
 use Rattle.list_rows.proofs.Rows.{messages-of-rows, cleared-padded}
+use Rattle.std.specs.Prelude.{Option}
 use Rattle.player_grammar.specs.declared.Line.{Line}
 use Rattle.player_text.specs.Player.{size_in}
 use Rattle.save_lines.specs.Lines.{lines_in}
@@ -98,7 +99,7 @@ module _ (text : List ℕ) (size : size_from (lines_in text) ≤ site_limit) whe
     }
 
 -- the first line gives the number of sites
-pub size-read : (text : List ℕ) (n : ℕ) (first : Taken Line) → first ≡ meant_here text 0 → n ≡ or_zero (size_in first.value) → n ≡ size_from (lines_in text)
+pub size-read : (text : List ℕ) (n : ℕ) (first : Taken (Option Line)) → first ≡ meant_here text 0 → n ≡ or_zero (size_in first.value) → n ≡ size_from (lines_in text)
 unfolding size_from line_start
 size-read text n first e s = s ∙ rw (e, line-at text 0)
 

@@ -1,5 +1,5 @@
 -- What the lines say that start at a place, as the code has it: with the place behind them.
-use Rattle.std.specs.Prelude.{ℕ, List, [], get_or, set}
+use Rattle.std.specs.Prelude.{ℕ, List, Option, [], get_or, set}
 use Rattle.rig.specs.Limits.{HELD, HEIR, INQUIRED}
 use Rattle.model.specs.Sets.{member}
 use Rattle.rig.specs.declared.Site.{Site}
@@ -15,7 +15,7 @@ abbrev pub taken_here : List ℕ → ℕ → Taken (List ℕ)
 taken_here text at = record { value = numbers_here text at; next = place_behind text at }
 
 -- as the player reads it
-abbrev pub meant_here : List ℕ → ℕ → Taken Line
+abbrev pub meant_here : List ℕ → ℕ → Taken (Option Line)
 meant_here text at = record { value = meaning_of (line_here text at); next = place_behind text at }
 
 -- a row of a table: its entries at the members of a set

@@ -12,6 +12,7 @@ ghost use Rattle.save_taking.specs.Parts.{taken_here, meant_here, taken_row, sit
 
 use list_rows::{Row, row};
 use player_grammar::{Line, meaning};
+use player_text::{set_in, size_in};
 use rig::{Arbiter, Rig, Site, Table};
 use save_entries::row_from;
 use save_fields::{Numbers, arbiter_from, mode_from};
@@ -37,7 +38,7 @@ pub fn take_numbers(text: &[u8], at: usize) -> Taken<Numbers>
 }
 
 // An inner call: what the line that starts at place `at` says to the player.
-pub fn take_line(text: &[u8], at: usize) -> Taken<Line>
+pub fn take_line(text: &[u8], at: usize) -> Taken<Option<Line>>
     requires { at ≤ length text.now }
     ensures { result ≡ meant_here text.now at }
 {
@@ -48,20 +49,20 @@ pub fn take_line(text: &[u8], at: usize) -> Taken<Line>
 }
 
 // The number of a line `sites=`; 0 for another line.
-pub fn size_of(line: Line) -> u64
+pub fn size_of(line: Option<Line>) -> u64
     ensures { result ≡ or_zero (size_in line) }
 {
-    let Line::Sites(n) = line else {
+    let Some(n) = size_in(line) else {
         return 0;
     };
     n
 }
 
 // The set of a line `set=`; 0 for another line.
-pub fn set_of(line: Line) -> u64
+pub fn set_of(line: Option<Line>) -> u64
     ensures { result ≡ or_zero (set_in line) }
 {
-    let Line::Set(set) = line else {
+    let Some(set) = set_in(line) else {
         return 0;
     };
     set

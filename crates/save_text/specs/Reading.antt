@@ -1,6 +1,7 @@
 -- Request 2.2: "a text is accepted only if the writer would produce it". A text is read as the state that its numbers give; it is accepted where that state
 -- is well shaped and its text is this one, byte for byte.
 use Rattle.std.specs.Prelude.{ℕ, zero, suc, ◌+◌, ◌-◌, ◌*◌, Bool, ◌&&◌, cond, List, [], ◌∷◌, ◌++◌, map, length, drop, get_or, replicate}
+use Rattle.std.specs.Prelude as P
 use Rattle.std.proofs.Math.Option.{Option, none, some}
 use Rattle.rig.specs.declared.Site.{Site}
 use Rattle.rig.specs.declared.Arbiter.{Arbiter}
@@ -40,9 +41,9 @@ abbrev pub message_line : ℕ → ℕ
 message_line n = 9 * n + 2
 
 -- `sites=` and `set=` as the player reads them; 0 for another line
-abbrev pub or_zero : Option ℕ → ℕ
-or_zero none = 0
-or_zero (some n) = n
+abbrev pub or_zero : P.Option ℕ → ℕ
+or_zero P.None = 0
+or_zero (P.Some n) = n
 
 unfoldable pub size_from : List (List ℕ) → ℕ
 size_from ls = or_zero (size_in (meaning_of (line_at ls 0)))

@@ -2,7 +2,7 @@
 use Prim.Native.Nat.{ℕ, suc, ◌+◌, ◌-◌, ◌≤◌, ◌<◌}
 use mathlib.Core.Bool.{Bool, true, false, cond}
 use mathlib.Core.List.{List, [], ◌∷◌, ◌++◌}
-use mathlib.Core.Option.{Option, none, some}
+use Rattle.std.specs.Prelude.{Option, Some, None}
 use mathlib.Core.Path.{◌≡◌, refl, ◌∙◌}
 use native.Mathlib.Numerals.{add-one}
 use native.Mathlib.Omega.{arith}
@@ -79,16 +79,16 @@ stop-prints p q code line = record { whole = stop-one code line true; stops = λ
 
 size-prints : (p : Text) (m : Option ℕ) → Prints p (on_size p m)
 unfolding on_size
-size-prints p none = stop-prints p p 11 _
-size-prints p (some n) =
+size-prints p None = stop-prints p p 11 _
+size-prints p (Some n) =
     by_bool (size_listed n)
     (λ e. rw e (record { whole = whole-none; stops = λ a b. clash false b refl }))
     (λ e. rw e (stop-prints p p 1 _))
 
 set-prints : (p : Text) (m : Option ℕ) → Prints p (on_set p m)
 unfolding on_set all_given
-set-prints p none = stop-prints p p 11 _
-set-prints p (some set) =
+set-prints p None = stop-prints p p 11 _
+set-prints p (Some set) =
     by_bool (ltb (p.given + 1) p.size)
     (λ e. rw e (record { whole = whole-none; stops = λ a b. clash false b refl }))
     (λ e. by_bool (eqb (setup_code p.size (put p.sets (p.given + 1) set)) 0)
@@ -97,10 +97,10 @@ set-prints p (some set) =
 
 event-prints : (p : Text) (m : Option Event) → Prints p (on_event p m)
 unfolding on_event printed_line
-event-prints p none = stop-prints p p 11 _
-event-prints p (some e) = record { whole = step-one _ _ _ _ _ true; stops = λ a b. clash false b refl }
+event-prints p None = stop-prints p p 11 _
+event-prints p (Some e) = record { whole = step-one _ _ _ _ _ true; stops = λ a b. clash false b refl }
 
-stage-prints : (s : Stage) (p : Text) (m : Line) → p.stage ≡ s → Prints p (at_stage s p m)
+stage-prints : (s : Stage) (p : Text) (m : Option Line) → p.stage ≡ s → Prints p (at_stage s p m)
 unfolding at_stage
 stage-prints Size p m e = size-prints p (size_in m)
 stage-prints Sets p m e = set-prints p (set_in m)

@@ -11,14 +11,14 @@ unfolding event_form
 returns-in-Some c =
     let line = c.args.line.now in
     let found = c.in-Some.ensures.cases in
-    rw (starts-word ask_word line found.0, ← found.1) (read-one Ask _ _ _ c.read_number.ensures c.map_or.ensures)
+    rw (starts-word ask_word line found.0, ← found.1) (read-one Ask _ _ _ c.read_number.ensures c.map.ensures.cases)
 
 pub returns-in-Some-strip_prefix : goal.returns-in-Some-strip_prefix
 unfolding event_form
 returns-in-Some-strip_prefix c =
     let line = c.args.line.now in
     let found = c.in-Some-strip_prefix.ensures.cases in
-    rw (starts-word ask_word line c.in_default.ensures.cases, starts-word leave_word line found.0, ← found.1) (read-one Leave _ _ _ c.read_number-in-Some-strip_prefix.ensures c.map_or-in-Some-strip_prefix.ensures)
+    rw (starts-word ask_word line c.in_default.ensures.cases, starts-word leave_word line found.0, ← found.1) (read-one Leave _ _ _ c.read_number-in-Some-strip_prefix.ensures c.map-in-Some-strip_prefix.ensures.cases)
 
 pub returns-in-Some-strip_prefix-2 : goal.returns-in-Some-strip_prefix-2
 unfolding event_form

@@ -17,7 +17,7 @@ unfolding meaning_of form
 returns-in-Some c =
     let line = c.args.line.now in
     let found = c.in-Some.ensures.cases in
-    rw (le-leb (length line) line_limit (omega arith), starts-word sites_word line found.0, ← found.1) (read-one Sites _ _ _ c.read_number.ensures c.map_or.ensures)
+    rw (le-leb (length line) line_limit (omega arith), starts-word sites_word line found.0, ← found.1) (read-one Sites _ _ _ c.read_number.ensures c.map.ensures.cases)
 
 pub returns-in-Some-strip_prefix : goal.returns-in-Some-strip_prefix
 unfolding meaning_of form

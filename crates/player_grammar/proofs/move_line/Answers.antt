@@ -31,11 +31,11 @@ returns-then-end-list c =
 pub slice_bounds-read_number-end : goal.slice_bounds-read_number-end
 slice_bounds-read_number-end c = sym (length-take-le _ _ (omega arith))
 
-pub returns-in_default : goal.returns-in_default
-returns-in_default c = sym (comma-found (goal.at.returns-in_default c).After-read_number ∙ rw c.in_default.is (move-malformed _))
+pub returns-in_err-a : goal.returns-in_err-a
+returns-in_err-a c = c.from_residual.ensures ∙ sym (comma-found (goal.at.returns-in_err-a c).After-read_number ∙ rw c.in_err-a.was (move-malformed _))
 
-pub returns-in_default-read_number : goal.returns-in_default-read_number
-returns-in_default-read_number c = sym (comma-found (goal.at.returns-in_default-read_number c).After-read_number ∙ rw c.in-Some.is (move-before _ _ ∙ one_number _ _ ∙ rw (← behind _ _, ← c.read_number-2.ensures, c.in_default-read_number.is)))
+pub returns-in_err-b : goal.returns-in_err-b
+returns-in_err-b c = c.from_residual-in_err-b.ensures ∙ sym (comma-found (goal.at.returns-in_err-b c).After-read_number ∙ rw c.in_ok-a.was (move-before _ _ ∙ one_number _ _ ∙ rw (← behind _ _, ← c.read_number-2.ensures, c.in_err-b.was)))
 
 pub returns : goal.returns
-returns c = sym (comma-found (goal.at.returns c).After-read_number ∙ rw c.in-Some.is (move-before _ _ ∙ one_number _ _ ∙ rw (← behind _ _, ← c.read_number-2.ensures, c.in-Some-read_number.is)))
+returns c = sym (comma-found (goal.at.returns c).After-read_number ∙ rw c.in_ok-a.was (move-before _ _ ∙ one_number _ _ ∙ rw (← behind _ _, ← c.read_number-2.ensures, c.in_ok-b.was)))

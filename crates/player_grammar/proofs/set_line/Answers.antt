@@ -21,22 +21,22 @@ part-read c =
 pub loop-at-init : goal.loop-at-init
 loop-at-init c = (omega arith, set-begun (numbers c.args.list.now) ∙ rw (le-leb 0 (length c.args.list.now) (omega arith)))
 
-pub returns-in_default : goal.returns-in_default
-returns-in_default c = sym (part-read (goal.at.returns-in_default c).After-read_number ∙ rw c.in_default.is (set-malformed _ _ _))
+pub returns-in_err-n : goal.returns-in_err-n
+returns-in_err-n c = c.from_residual.ensures ∙ sym (part-read (goal.at.returns-in_err-n c).After-read_number ∙ rw c.in_err-n.was (set-malformed _ _ _))
 
 pub returns-then-n-low : goal.returns-then-n-low
-returns-then-n-low c = sym (part-read (goal.at.returns-then-n-low c).After-read_number ∙ rw c.in-Some.is (set-falls _ _ _ _ c.if-n-low.true))
+returns-then-n-low c = sym (part-read (goal.at.returns-then-n-low c).After-read_number ∙ rw c.in_ok-n.was (set-falls _ _ _ _ c.if-n-low.true))
 
 pub overflow_add-low : goal.overflow_add-low
 overflow_add-low c =
-    let l = number-limit _ _ (sym c.read_number.ensures ∙ c.in-Some.is) in
+    let l = number-limit _ _ (sym c.read_number.ensures ∙ c.in_ok-n.was) in
     omega arith
 
 pub loop-at-smaller : goal.loop-at-smaller
 loop-at-smaller c = omega (arith, c.find-end.ensures.value)
 
 pub loop-at-preserved : goal.loop-at-preserved
-loop-at-preserved c = (omega arith, part-read (goal.at.loop-at-preserved c).After-read_number ∙ rw (c.in-Some.is, c.site_bit-set.ensures) (set-rises _ _ _ _ c.if-n-low.false))
+loop-at-preserved c = (omega arith, part-read (goal.at.loop-at-preserved c).After-read_number ∙ rw (c.in_ok-n.was, c.site_bit-set.ensures) (set-rises _ _ _ _ c.if-n-low.false))
 
 pub returns : goal.returns
 returns c =

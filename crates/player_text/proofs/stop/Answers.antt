@@ -3,4 +3,4 @@ use mathlib.Core.Path.{refl}
 use Rattle.player_text.proofs.stop.Goals as goal
 
 pub returns : goal.returns
-returns c = (refl, c.stop_line-n.ensures)
+returns c = (refl, c.stop_line.ensures)

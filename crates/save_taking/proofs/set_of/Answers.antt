@@ -1,12 +1,9 @@
--- `set_of`: the set of `set=`.
-use Rattle.player_text.specs.Player.{set_in}
-use Rattle.player_text.proofs.Lines.{no-set}
+-- `set_of`: the number, or 0.
+use mathlib.Core.Path.{refl}
 use Rattle.save_taking.proofs.set_of.Goals as goal
 
 pub returns-in_default : goal.returns-in_default
-unfolding set_in
-returns-in_default c = rw (no-set c.args.line c.in_default.not-Set)
+returns-in_default c = rw (← c.set_in.ensures, c.in_default.is) refl
 
 pub returns : goal.returns
-unfolding set_in
-returns c = rw c.in-Set.is
+returns c = rw (← c.set_in.ensures, c.in-Some.is) refl

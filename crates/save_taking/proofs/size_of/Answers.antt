@@ -1,12 +1,9 @@
--- `size_of`: the number of `sites=`.
-use Rattle.player_text.specs.Player.{size_in}
-use Rattle.player_text.proofs.Lines.{no_size}
+-- `size_of`: the number, or 0.
+use mathlib.Core.Path.{refl}
 use Rattle.save_taking.proofs.size_of.Goals as goal
 
 pub returns-in_default : goal.returns-in_default
-unfolding size_in
-returns-in_default c = rw (no_size c.args.line c.in_default.not-Sites)
+returns-in_default c = rw (← c.size_in.ensures, c.in_default.is) refl
 
 pub returns : goal.returns
-unfolding size_in
-returns c = rw c.in-Sites.is
+returns c = rw (← c.size_in.ensures, c.in-Some.is) refl
