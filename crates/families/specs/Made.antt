@@ -3,16 +3,11 @@ use Rattle.std.specs.Prelude.{ℕ, not, cond, List, eqb, length}
 use Rattle.rig.specs.Limits.{site_limit}
 use Rattle.family_rules.specs.declared.Family.{Family}
 use Rattle.family_rules.specs.declared.Family.TheVariants.{Billiard}
-use Rattle.family_rules.specs.Family.{listed, computed, size_of, set_at, sets_of}
-use Rattle.families.specs.declared.Made.{Made}
+use Rattle.family_rules.specs.Family.{listed, computed, set_at, sets_of}
 
 -- "Families. 13 as above" (the buffer of sets is not 31 entries long); "12 if the parameter is not listed"; request 2.1: "Other sides give 12."
 unfoldable pub family_code : Family → ℕ → ℕ
 family_code f n = cond (not (eqb n site_limit)) 13 (cond (not (listed f)) 12 0)
-
--- what the call answers on a buffer of n entries: its code, and N, 0 with a refusal
-unfoldable pub made : Family → ℕ → Made
-made f n = record { code = family_code f n; size = cond (eqb (family_code f n) 0) (size_of f) 0 }
 
 -- what the buffer holds after the call; turned down: "Nothing of the state or a lent buffer changes then."
 unfoldable pub filled : Family → List ℕ → List ℕ

@@ -1,42 +1,35 @@
 // The families of request sets: the grid, the billiard, the plane and the levels by their parameters, and the votes.
 #![tactic(auto)]
 
-ghost use Rattle.std.specs.Prelude.{◌≡◌, ℕ, Bool, length};
+ghost use Rattle.std.specs.Prelude.{◌≡◌, ℕ, Bool, length, IfOk, OnOk};
+ghost use Rattle.refusals.specs.Numbers.{code_in};
 ghost use Rattle.rig.specs.Limits.{site_limit};
 ghost use Rattle.model.specs.Setup.{setup_code};
 ghost use Rattle.family_sets.specs.Rule.{sets_by};
 ghost use Rattle.families.specs.Filling.{AnswersSets};
-ghost use Rattle.families.specs.Made.{made, filled, billiard_set};
+ghost use Rattle.family_rules.specs.Family.{size_of};
+ghost use Rattle.families.specs.Made.{family_code, filled, billiard_set};
 ghost use Rattle.families.specs.ByVotes.{votes_code, filled_by_votes, VotesKept};
 
 use family_rules::{Family, is_listed, set_at, size_of};
 use family_votes::{set_by_votes, vote_sum, votes_listed};
+use refusals::Refusal;
 use rig::Rig;
 use rig_reads::is_site;
 
-// What generating a family answers: 0 accepted, 12 or 13; the number of sites, 0 with a refusal.
-#[derive(Clone, Copy)]
-pub struct Made {
-    pub code: u64,
-    pub size: u64,
-}
-
-// Writes the sets of the family's sites into a buffer with an entry for each site.
-pub fn generate(family: Family, sets: &mut [u64]) -> Made
-    ensures determined { (result ≡ made family (length sets.old)) × (sets.new ≡ filled family sets.old) }
-    ensures accepted { result.code ≡ 0 → setup_code result.size sets.new ≡ 0 }
+// Writes the sets of the family's sites into a buffer with an entry for each site; answers how many sites it has.
+pub fn generate(family: Family, sets: &mut [u64]) -> Result<u64, Refusal>
+    ensures determined { (code_in result ≡ family_code family (length sets.old)) × IfOk result (λ n. n ≡ size_of family) × (sets.new ≡ filled family sets.old) }
+    ensures accepted { IfOk result (λ n. setup_code n sets.new ≡ 0) }
 {
     if sets.len() != Rig::SITES {
-        return Made { code: 13, size: 0 };
+        return Err(Refusal::WrongLength);
     }
     if !is_listed(family) {
-        return Made { code: 12, size: 0 };
+        return Err(Refusal::Unlisted);
     }
     fill(|n| set_at(family, n), sets);
-    Made {
-        code: 0,
-        size: size_of(family),
-    }
+    Ok(size_of(family))
 }
 
 // The set of site n in the billiard of q, for q of 3, 5, 7 and 9; 0 for another q or n.
@@ -63,34 +56,32 @@ fn fill<F: Fn(u64) -> u64>(set_of: F, sets: &mut [u64])
     }
 }
 
-// Writes the sets of n sites by their votes into a buffer with an entry for each site; the votes stand in one as long. Answers 0 accepted, 13, 1 or 16.
-pub fn generate_by_votes(n: u64, votes: &[u64], sets: &mut [u64]) -> u64
-    ensures determined { (result ≡ votes_code n votes.now (length sets.old)) × (sets.new ≡ filled_by_votes n votes.now sets.old) }
-    ensures kept { result ≡ 0 → VotesKept n votes.now sets.new }
+// Writes the sets of n sites by their votes into a buffer with an entry for each site; the votes stand in one as long. It may be turned down with 13, 1 or 16.
+pub fn generate_by_votes(n: u64, votes: &[u64], sets: &mut [u64]) -> Result<(), Refusal>
+    ensures determined { (code_in result ≡ votes_code n votes.now (length sets.old)) × (sets.new ≡ filled_by_votes n votes.now sets.old) }
+    ensures kept { OnOk result (VotesKept n votes.now sets.new) }
 {
-    let code = votes_code(n, votes, sets.len());
-    if code != 0 {
-        return code;
-    }
+    judge_votes(n, votes, sets.len())?;
     let sum = vote_sum(n, votes);
     fill(|site| set_by_votes(n, votes, sum, site), sets);
-    0
+    Ok(())
 }
 
-fn votes_code(n: u64, votes: &[u64], entries: usize) -> u64
-    ensures { result ≡ votes_code n votes.now entries }
+// Whether votes are turned down, for a buffer of so many sets.
+fn judge_votes(n: u64, votes: &[u64], entries: usize) -> Result<(), Refusal>
+    ensures { code_in result ≡ votes_code n votes.now entries }
 {
     if entries != Rig::SITES {
-        return 13;
+        return Err(Refusal::WrongLength);
     }
     if votes.len() != Rig::SITES {
-        return 13;
+        return Err(Refusal::WrongLength);
     }
     if !is_site(Rig::SITES as u64, n) {
-        return 1;
+        return Err(Refusal::SiteCount);
     }
     if !votes_listed(n, votes) {
-        return 16;
+        return Err(Refusal::FaultyVotes);
     }
-    0
+    Ok(())
 }

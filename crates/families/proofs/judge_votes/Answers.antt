@@ -1,10 +1,10 @@
--- `votes_code`: each test in turn.
+-- `judge_votes`: each test in turn.
 use mathlib.Core.Path.{sym}
 use Rattle.rig.specs.Limits.{site_limit}
 use Rattle.model.proofs.Shaped.{within}
 use Rattle.families.proofs.ByVotes.{sets-13, votes-13, code-1, code-16, code-0}
 use mathlib.Core.Path.{sym, ◌∙◌}
-use Rattle.families.proofs.votes_code.Goals as goal
+use Rattle.families.proofs.judge_votes.Goals as goal
 
 pub returns-then-entries-ne-SITES : goal.returns-then-entries-ne-SITES
 returns-then-entries-ne-SITES c = sym (sets-13 _ _ _ c.if-entries-ne-SITES.true)
