@@ -1,23 +1,27 @@
 -- The rig of a family of request sets, and two sets of the billiard of q = 9.
-use Rattle.std.specs.Prelude.{ℕ, ◌+◌, ◌-◌, ◌^◌, cond, List, [], ◌∷◌, eqb}
+use Rattle.std.specs.Prelude.{ℕ, ◌+◌, ◌-◌, ◌^◌, ◌≡◌, cond, List, [], ◌∷◌, eqb, Result, IfOk}
 use Rattle.rig.specs.Limits.{site_limit}
-use Rattle.model.specs.Setup.{fresh_rig, no_rig}
+use Rattle.rig.specs.declared.Rig.{Rig}
+use Rattle.refusals.specs.declared.Refusal.{Refusal}
+use Rattle.refusals.specs.Numbers.{code_in}
+use Rattle.model.specs.Setup.{setup_code, fresh_rig}
 use Rattle.family_rules.specs.declared.Family.{Family}
 use Rattle.family_rules.specs.Family.{listed, size_of, sets_of}
 use Rattle.family_votes.specs.Votes.{sets_by_votes}
 use Rattle.families.specs.ByVotes.{votes_code}
-use Rattle.setup.specs.declared.Answer.{Answer}
-use Rattle.setup.specs.Answer.{setup_answer}
 
--- Setup accepts the sets of every listed family, and makes their fresh rig; "12 if the parameter is not listed", with a rig without sites.
-unfoldable pub family_rig : Family → Answer
-family_rig f = cond (listed f) (record { code = 0; rig = fresh_rig (size_of f) (sets_of f) }) (record { code = 12; rig = no_rig })
+-- Setup accepts the sets of every listed family, and makes their fresh rig; "12 if the parameter is not listed".
+abbrev pub IsFamilyRig : Family → Result Rig Refusal → Type 0
+IsFamilyRig f r = (code_in r ≡ cond (listed f) 0 12) × IfOk r (λ g. g ≡ fresh_rig (size_of f) (sets_of f))
 
--- A family by votes: setup's answer to its sets; where the family is turned down, the code of that, with a rig without sites.
-unfoldable pub votes_rig : ℕ → List ℕ → Answer
-votes_rig n votes =
+-- A family by votes: setup's code of its sets; where the family is turned down, the code of that.
+unfoldable pub votes_rig_code : ℕ → List ℕ → ℕ
+votes_rig_code n votes =
     let code = votes_code n votes site_limit in
-    cond (eqb code 0) (setup_answer n (sets_by_votes n votes)) (record { code = code; rig = no_rig })
+    cond (eqb code 0) (setup_code n (sets_by_votes n votes)) code
+
+abbrev pub IsVotesRig : ℕ → List ℕ → Result Rig Refusal → Type 0
+IsVotesRig n votes r = (code_in r ≡ votes_rig_code n votes) × IfOk r (λ g. g ≡ fresh_rig n (sets_by_votes n votes))
 
 -- a set as its members: "its bit n − 1, the lowest being bit 0, stands for site n"
 unfoldable pub of_sites : List ℕ → ℕ

@@ -3,56 +3,43 @@
 
 ghost use Rattle.std.specs.Prelude.{◌≡◌, ◌⊎◌};
 ghost use Rattle.rig.specs.Limits.{site_limit};
+ghost use Rattle.refusals.specs.Numbers.{code_in};
 ghost use Rattle.families.specs.ByVotes.{votes_code};
-ghost use Rattle.client_families.specs.Rig.{family_rig, votes_rig, nine_sets};
+ghost use Rattle.client_families.specs.Rig.{IsFamilyRig, IsVotesRig, nine_sets};
 
 use families::{billiard_set, generate, generate_by_votes};
 use family_rules::Family;
+use refusals::Refusal;
 use rig::Rig;
-use setup::{Answer, resting, setup};
+use setup::setup;
 use setup_faults::judge_meeting;
 
 // Generates a family's sets and sets them up.
-pub fn family_rig(family: Family) -> Answer
-    ensures { result ≡ family_rig family }
+pub fn family_rig(family: Family) -> Result<Rig, Refusal>
+    ensures { IsFamilyRig family result }
 {
     let mut sets = [0u64; Rig::SITES];
-    let made = generate(family, &mut sets);
-    if made.code != 0 {
-        return Answer {
-            code: made.code,
-            rig: resting(0, sets),
-        };
-    }
-    setup(made.size, &sets)
+    let size = generate(family, &mut sets)?;
+    setup(size, &sets)
 }
 
 // Generates the sets of n sites by their votes and sets them up. Where they are made, setup accepts them or answers 17.
-pub fn votes_rig(n: u64, votes: &[u64; Rig::SITES]) -> Answer
-    ensures determined { result ≡ votes_rig n votes.now }
-    ensures judged { votes_code n votes.now site_limit ≡ 0 → (result.code ≡ 0) ⊎ (result.code ≡ 17) }
+pub fn votes_rig(n: u64, votes: &[u64; Rig::SITES]) -> Result<Rig, Refusal>
+    ensures determined { IsVotesRig n votes.now result }
+    ensures judged { votes_code n votes.now site_limit ≡ 0 → (code_in result ≡ 0) ⊎ (code_in result ≡ 17) }
 {
     let mut sets = [0u64; Rig::SITES];
-    let code = generate_by_votes(n, votes, &mut sets);
-    if code != 0 {
-        return Answer {
-            code,
-            rig: resting(0, sets),
-        };
-    }
+    generate_by_votes(n, votes, &mut sets)?;
     setup(n, &sets)
 }
 
 // Generates the sets of n sites by their votes and judges them by the codes 13, 1, 2 and 3 alone. Where they are made, they get none of these.
-pub fn votes_meeting(n: u64, votes: &[u64; Rig::SITES]) -> u64
-    ensures { result ≡ votes_code n votes.now site_limit }
+pub fn votes_meeting(n: u64, votes: &[u64; Rig::SITES]) -> Result<(), Refusal>
+    ensures { code_in result ≡ votes_code n votes.now site_limit }
 {
-    let mut sets = [0u64; Rig::SITES];
-    let code = generate_by_votes(n, votes, &mut sets);
-    if code != 0 {
-        return code;
-    }
-    judge_meeting(n, &sets)
+    let mut made = [0u64; Rig::SITES];
+    generate_by_votes(n, votes, &mut made)?;
+    judge_meeting(n, &made)
 }
 
 // The sets of sites 11 and 34 in the billiard of q = 9, by the rule itself.

@@ -1,4 +1,5 @@
 -- The text of a family by what generating it answers.
+use Rattle.std.specs.Prelude.{Result, Ok, Err}
 use Prim.Native.Nat.{ℕ}
 use mathlib.Core.List.{List}
 use mathlib.Core.Path.{◌≡◌, sym, ◌∙◌}
@@ -8,33 +9,37 @@ use borrow.Author.Tests.{eq-eqb, ne_eqb}
 use Rattle.rig.specs.Limits.{site_limit}
 use Rattle.basics.proofs.Basics.{by_bool}
 use Rattle.family_rules.specs.declared.Family.{Family}
-use Rattle.families.specs.declared.Made.{Made}
-use Rattle.family_rules.specs.Family.{listed}
-use Rattle.families.specs.Made.{family_code, made, filled}
+use Rattle.refusals.specs.declared.Refusal.{Refusal}
+use Rattle.refusals.specs.Numbers.{number_of, code_in}
+use Rattle.refusals.proofs.Refusals.{some_number}
+use Rattle.family_rules.specs.Family.{listed, size_of}
+use Rattle.families.specs.Made.{family_code, filled}
 use Rattle.families.specs.ByVotes.{votes_code, filled_by_votes}
 use Rattle.plan_lines.specs.Lines.{code_text, setup_text}
 use Rattle.plan_text.specs.Plan.{family_text, votes_text}
 
-module _ (f : Family) {r : Made} {after : List ℕ} (m : r ≡ made f site_limit) (s : after ≡ filled f (replicate site_limit 0)) where
-  pub made-text : r.code ≡ 0 → setup_text r.size after ≡ family_text f
-  unfolding made filled family_code family_text
-  made-text e =
+module _ (f : Family) {r : Result ℕ Refusal} (c : code_in r ≡ family_code f site_limit) where
+  pub made-text : {n : ℕ} {after : List ℕ} → r ≡ Ok n → n ≡ size_of f → after ≡ filled f (replicate site_limit 0) → setup_text n after ≡ family_text f
+  unfolding filled family_code family_text
+  made-text e s a =
       by_bool (listed f)
-      (λ l. rw (m, s, l))
-      (λ l. let z : 12 ≡ 0 = rw (m, l) at e in absurd (omega arith))
+      (λ l. rw (s, a, l))
+      (λ l. let z : 0 ≡ 12 = rw (e, l) at c in absurd (omega arith))
 
-  pub refused-text : (r.code ≡ 0 → ⊥) → code_text r.code ≡ family_text f
-  unfolding made family_code family_text
-  refused-text n =
+  pub refused-text : {why : Refusal} → r ≡ Err why → code_text (number_of why) ≡ family_text f
+  unfolding family_code family_text
+  refused-text {why} e =
       by_bool (listed f)
-      (λ l. absurd (n (rw (m, l))))
-      (λ l. rw (m, l))
+      (λ l. absurd (some_number why (rw (e, l) at c)))
+      (λ l. let z : number_of why ≡ 12 = rw (e, l) at c in rw (z, l))
 
-module _ (n : ℕ) (votes : List ℕ) {r : ℕ} {after : List ℕ} (c : r ≡ votes_code n votes site_limit) (s : after ≡ filled_by_votes n votes (replicate site_limit 0)) where
-  pub votes-text : r ≡ 0 → setup_text n after ≡ votes_text n votes
+module _ (n : ℕ) (votes : List ℕ) {r : Result (Unit {0}) Refusal} (c : code_in r ≡ votes_code n votes site_limit) where
+  pub votes-text : {u : _} {after : List ℕ} → r ≡ Ok u → after ≡ filled_by_votes n votes (replicate site_limit 0) → setup_text n after ≡ votes_text n votes
   unfolding filled_by_votes votes_text
-  votes-text e = rw (s, eq-eqb (votes_code n votes site_limit) 0 (sym c ∙ e))
+  votes-text e s = let z : 0 ≡ votes_code n votes site_limit = rw e at c in rw (s, eq-eqb (votes_code n votes site_limit) 0 (sym z))
 
-  pub refused-votes : (r ≡ 0 → ⊥) → code_text r ≡ votes_text n votes
+  pub refused-votes : {why : Refusal} → r ≡ Err why → code_text (number_of why) ≡ votes_text n votes
   unfolding votes_text
-  refused-votes d = rw (ne_eqb (votes_code n votes site_limit) 0 (λ z. d (c ∙ z)), ← c)
+  refused-votes {why} e =
+      let z : number_of why ≡ votes_code n votes site_limit = rw e at c in
+      rw (ne_eqb (votes_code n votes site_limit) 0 (λ t. some_number why (z ∙ t)), ← z)

@@ -51,11 +51,10 @@ fn family_lines(family: Family, page: &mut PlanPage) -> usize
     ensures { Printed (family_text family) page.old page.new result }
 {
     let mut sets = [0u64; Rig::SITES];
-    let made = generate(family, &mut sets);
-    if made.code != 0 {
-        return code_line(page, made.code);
+    match generate(family, &mut sets) {
+        Ok(size) => setup_lines(page, size, &sets),
+        Err(refusal) => code_line(page, refusal.number()),
     }
-    setup_lines(page, made.size, &sets)
 }
 
 // The lines of a family by votes, or the line of its refusal; answers their length.
@@ -63,11 +62,10 @@ fn votes_lines(given: Given, page: &mut PlanPage) -> usize
     ensures { Printed (votes_text given.count given.numbers) page.old page.new result }
 {
     let mut sets = [0u64; Rig::SITES];
-    let code = generate_by_votes(given.count, &given.numbers, &mut sets);
-    if code != 0 {
-        return code_line(page, code);
+    match generate_by_votes(given.count, &given.numbers, &mut sets) {
+        Ok(()) => setup_lines(page, given.count, &sets),
+        Err(reason) => code_line(page, reason.number()),
     }
-    setup_lines(page, given.count, &sets)
 }
 
 // How to use the program; answers the text's length.

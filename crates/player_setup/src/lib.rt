@@ -43,17 +43,17 @@ fn all_given(p: Player, page: &mut Page, sets: [u64; Rig::SITES]) -> Said
     requires { p.size ≤ site_limit }
     ensures { BeforeEvents Sets (λ t. all_given t sets) p page.old page.new result }
 {
-    let made = setup(p.size, &sets);
-    if made.code != 0 {
-        return stop(p, page, made.code, fault_line(p.size, &sets));
-    }
+    let rig = match setup(p.size, &sets) {
+        Ok(rig) => rig,
+        Err(refusal) => return stop(p, page, refusal.number(), fault_line(p.size, &sets)),
+    };
     let place = one_more(p.line);
     let player = Player {
         stage: Stage::Events,
         line: place,
         given: p.size,
         sets,
-        rig: made.rig,
+        rig,
         count: 0,
         tested: false,
         ..p

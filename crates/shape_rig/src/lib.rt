@@ -26,9 +26,9 @@ fn places_shaped(rig: &Rig) -> bool
 }
 
 // Sets such as setup passes, at most 1,000,000 accepted events, and every place.
-#[tactic(auto, unfolding(model::specs::Shape::rig_shaped))]
+#[tactic(auto, using(refusals::proofs::Refusals::accepted_code), unfolding(model::specs::Shape::rig_shaped))]
 pub fn rig_shaped(rig: Rig) -> bool
     ensures { result ≡ rig_shaped rig }
 {
-    judge(rig.size, &rig.sets) == 0 && rig.accepted <= Rig::EVENTS && places_shaped(&rig)
+    judge(rig.size, &rig.sets).is_ok() && rig.accepted <= Rig::EVENTS && places_shaped(&rig)
 }

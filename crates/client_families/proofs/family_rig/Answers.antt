@@ -1,15 +1,22 @@
 -- `family_rig`: by the contracts of `generate` and `setup`. That setup accepts the sets is what `generate` says of them.
-use mathlib.Core.Path.{◌∙◌}
-use Rattle.client_families.proofs.Made.{made-rig, refused-rig}
+use Rattle.std.proofs.Common.{rules}
+use Rattle.std.specs.Prelude.{Err}
+use mathlib.Core.Path.{◌≡◌, sym, ◌∙◌}
+use Rattle.client_families.proofs.Made.{made-listed, refused-unlisted}
 use Rattle.client_families.proofs.family_rig.Goals as goal
 
-pub returns-then-made-ne0 : goal.returns-then-made-ne0
-returns-then-made-ne0 c =
-    let e = c.generate-made.ensures in
-    rw c.resting.ensures (refused-rig c.args.family e.determined.0 e.determined.1 c.if-made-ne0.true)
+pub returns-in_err-size : goal.returns-in_err-size
+returns-in_err-size c =
+    let e = c.generate.ensures.determined in
+    let g : c.from_residual.result ≡ Err c.in_err-size.field-0.0 = search rules in
+    rw g (refused-unlisted c.args.family e.0 c.in_err-size.was, tt)
 
 pub returns : goal.returns
 returns c =
-    let e = c.generate-made.ensures in
-    let none = c.if-made-ne0.false in
-    c.setup.ensures.0 ∙ made-rig c.args.family e.determined.0 e.determined.1 none (e.accepted none)
+    let e = c.generate.ensures in
+    let d = e.determined in
+    let m = made-listed c.args.family d.0 c.in_ok-size.was d.2 in
+    let size = rw c.in_ok-size.was at d.1 in
+    let s = c.setup.ensures.determined in
+    let accepted = rw c.in_ok-size.was at e.accepted in
+    (s.0 ∙ accepted ∙ sym m.0, rw (← m.1, ← size) s.1)

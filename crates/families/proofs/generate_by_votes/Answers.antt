@@ -2,7 +2,7 @@
 use mathlib.Core.Path.{◌≡◌, sym, ◌∙◌}
 use borrow.Author.Tests.{eq-eqb, ne_eqb}
 use Rattle.refusals.specs.Numbers.{number_of, code_in}
-use Rattle.refusals.proofs.Refusals.{some-number}
+use Rattle.refusals.proofs.Refusals.{some_number}
 use Rattle.families.specs.ByVotes.{filled_by_votes}
 use Rattle.family_votes.specs.Votes.{takes, VotesFit}
 use Rattle.std.proofs.Common.{rules}
@@ -14,7 +14,7 @@ unfolding filled_by_votes
 returns-in_err-judge_votes-clause-determined c =
     let e = rw c.in_err-judge_votes.was at c.judge_votes.ensures in
     let g : code_in c.from_residual.result ≡ number_of c.in_err-judge_votes.field-0.0 = search rules in
-    (g ∙ e, rw (ne_eqb _ 0 (λ t. some-number _ (e ∙ t))))
+    (g ∙ e, rw (ne_eqb _ 0 (λ t. some_number _ (e ∙ t))))
 
 pub vote_sum-sum-requires : goal.vote_sum-sum-requires
 vote_sum-sum-requires c = votes-fit _ _ _ (sym (rw c.in_ok-judge_votes.was at c.judge_votes.ensures))

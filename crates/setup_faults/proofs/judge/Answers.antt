@@ -4,7 +4,7 @@ use mathlib.Core.Path.{◌≡◌, sym, ap, ◌∙◌}
 use mathlib.Core.Bool.{not}
 use Rattle.model.specs.Setup.{each_code}
 use Rattle.refusals.specs.Numbers.{number_of, code_in}
-use Rattle.refusals.proofs.Refusals.{some-number}
+use Rattle.refusals.proofs.Refusals.{some_number}
 use Rattle.setup_faults.proofs.Rules.{told-site, told-none, each-refused, comparable, told-0, told-3, told-17}
 use Rattle.setup_faults.proofs.judge.Goals as goal
 
@@ -12,7 +12,7 @@ pub returns-in_err-judge_each : goal.returns-in_err-judge_each
 returns-in_err-judge_each c =
     let e = rw c.in_err-judge_each.was at c.judge_each.ensures in
     let g : code_in c.from_residual.result ≡ number_of c.in_err-judge_each.field-0.0 = search rules in
-    g ∙ e ∙ sym (each-refused _ _ (λ z. some-number _ (e ∙ z))).1
+    g ∙ e ∙ sym (each-refused _ _ (λ z. some_number _ (e ∙ z))).1
 
 pub first_breaking-requires : goal.first_breaking-requires
 first_breaking-requires c = comparable _ _ (sym (rw c.in_ok-judge_each.was at c.judge_each.ensures))
