@@ -50,6 +50,7 @@ impl Entry for Message {
     }
 }
 
+// Where such an entry stands first, if one does.
 fn place<E: Entry>(list: &[E], count: usize, a: u64, b: u64) -> Option<usize>
     ensures { result ≡ position (λ e. between a b (E.message_in e)) (take count list.now) }
 {

@@ -10,10 +10,11 @@ use rig::Rig;
 use setup_faults::judge;
 use shape_places::place_shaped;
 
-// Every place. One index goes through the sets, the sites and the arbiters.
+// Every place.
 fn places_shaped(rig: &Rig) -> bool
     ensures { result ≡ all (place_shaped rig.now) site_limit }
 {
+    // no plainer: one index reads the sets, the sites and the arbiters
     for i in 0..Rig::SITES {
         let set = rig.sets[i];
         let site = rig.sites[i];
