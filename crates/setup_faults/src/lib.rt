@@ -64,6 +64,7 @@ pub fn judge(size: u64, sets: &[u64]) -> u64
     if first_breaking(Rule::Fits, size, sets).is_none() {
         return 0;
     }
+    // Not by `judge_meeting`, which would judge each set once more.
     let apart = first_breaking(Rule::Meets, size, sets);
     if apart.is_some() { 3 } else { 17 }
 }
