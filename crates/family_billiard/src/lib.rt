@@ -27,6 +27,7 @@ fn path_site(q: u64, i: u64, j: u64, steps: u64) -> u64
     ensures { result ≡ path_site q i j steps }
 {
     let mut x = first_site(q, i, j);
+    // Not a `fold`: no plainer, as what a step needs of the site before it is the loop's invariant.
     for k in 0..steps {
         x = next_site(q, i, j, k + 1, x);
     }

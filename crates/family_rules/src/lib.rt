@@ -66,6 +66,7 @@ fn site_set(family: Family, n: u64) -> u64
 {
     let size = size_of(family);
     let mut set = 0;
+    // Not a `fold`: no plainer, as that no later site is in the set so far is the loop's invariant.
     for m in 0..size {
         if has_site(family, n, m + 1) {
             set = with_member(set, m + 1);

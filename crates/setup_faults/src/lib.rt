@@ -60,6 +60,7 @@ pub fn judge(size: u64, sets: &[u64]) -> Result<(), Refusal>
     if first_breaking(Rule::Fits, size, sets).is_none() {
         return Ok(());
     }
+    // Not by `judge_meeting`, which would judge each set once more.
     let apart = first_breaking(Rule::Meets, size, sets);
     Err(if apart.is_some() {
         Refusal::SetsApart
