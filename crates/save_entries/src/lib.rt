@@ -1,7 +1,7 @@
 // The entries of a row at the members of a set as the numbers of a line, and back.
 #![tactic(auto)]
 
-ghost use Rattle.std.specs.Prelude.{◌+◌, ◌^◌, ◌<◌, true, cond, ◌≡◌, set};
+ghost use Rattle.std.specs.Prelude.{◌+◌, ◌^◌, ◌<◌, cond, ◌≡◌};
 ghost use Rattle.rig.specs.Limits.{site_limit};
 ghost use Rattle.model.specs.Sets.{member, set_of};
 ghost use Rattle.model.specs.State.{has_member};

@@ -27,7 +27,7 @@ fn put_sets(page: &mut [u8], at: usize, sets: &[u64], n: usize) -> usize
     next
 }
 
-// The lines of the sites 1 to n.
+// The lines of the sites 1 to n. One function for this loop and the next is no plainer: its contract would state what a call that it is given does to a page.
 fn put_sites(page: &mut [u8], at: usize, rig: Rig, tables: &Tables, n: usize) -> usize
     requires { (n ≤ site_limit) × Fits (each_up_to (site_lines rig tables.now) n) at page.old }
     ensures { Puts (each_up_to (site_lines rig tables.now) n) at page.old page.new result }

@@ -9,7 +9,7 @@ returns-then-kind-eq0 c = rw (eq-eqb _ 0 c.if-kind-eq0.true)
 
 pub returns-then-kind-eq1 : goal.returns-then-kind-eq1
 unfolding mode_from
-returns-then-kind-eq1 c = let h = c in rw (ne_eqb _ 0 h.if-kind-eq0.false, eq-eqb _ 1 h.if-kind-eq1.true)
+returns-then-kind-eq1 c = rw (ne_eqb _ 0 c.if-kind-eq0.false, eq-eqb _ 1 c.if-kind-eq1.true)
 
 pub returns : goal.returns
 unfolding mode_from

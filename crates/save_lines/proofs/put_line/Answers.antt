@@ -12,8 +12,7 @@ use Rattle.save_lines.proofs.put_line.Goals as goal
 
 pub put_word-first-requires : goal.put_word-first-requires
 put_word-first-requires c =
-    let s = c in
-    omega (arith, line-length s.args.word.now (take s.args.count s.args.numbers.now))
+    omega (arith, line-length c.args.word.now (take c.args.count c.args.numbers.now))
 
 pub loop-n-init : goal.loop-n-init
 unfolding list_text

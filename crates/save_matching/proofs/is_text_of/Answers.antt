@@ -21,5 +21,4 @@ slice_bounds-same_bytes-end c = (printed-part c.put_state-n.ensures).1
 pub returns : goal.returns
 unfolding is_text_of text_of
 returns c =
-    let shown = c in
-    rw (sym shown.well_shaped.ensures ∙ shown.if-not-well_shaped.false) (c.same_bytes.ensures ∙ rw c.put_state-n.ensures.text)
+    rw (sym c.well_shaped.ensures ∙ c.if-not-well_shaped.false) (c.same_bytes.ensures ∙ rw c.put_state-n.ensures.text)

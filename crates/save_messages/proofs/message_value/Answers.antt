@@ -5,12 +5,10 @@ use Rattle.save_messages.proofs.message_value.Goals as goal
 
 pub returns-then-has_about : goal.returns-then-has_about
 returns-then-has_about c =
-    let h = c in
     rw c.count_of.ensures at c.first_five.ensures
-    ∙ value-about h.args.m (sym h.has_about.ensures ∙ h.if-has_about.true)
+    ∙ value-about c.args.m (sym c.has_about.ensures ∙ c.if-has_about.true)
 
 pub returns : goal.returns
 returns c =
-    let h = c in
     rw c.count_of-2.ensures at c.first_five-2.ensures
-    ∙ value-plain h.args.m (sym h.has_about.ensures ∙ h.if-has_about.false)
+    ∙ value-plain c.args.m (sym c.has_about.ensures ∙ c.if-has_about.false)

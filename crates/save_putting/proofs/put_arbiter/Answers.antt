@@ -12,28 +12,22 @@ put_one-grant-requires c = fits_line c.requires.1
 pub put_value-holder-requires : goal.put_value-holder-requires
 unfolding arbiter_fields at
 put_value-holder-requires c =
-    let grant = c in
-    let h = grant.requires in
-    value-fits c.holder_value.ensures (fits_line (fits-behind h.1 grant.put_one-grant.ensures))
+    let h = c.requires in
+    value-fits c.holder_value.ensures (fits_line (fits-behind h.1 c.put_one-grant.ensures))
 
 pub put_row-requires : goal.put_row-requires
 unfolding arbiter_fields at
 put_row-requires c =
-    let two = c in
-    let grant = two in
-    let h = grant.requires in
-    let a = grant.args in
-    let holder = value-puts two.holder_value.ensures two.put_value-holder.ensures in
-    let row = askers-row a.rig.sets a.i grant.askers-set.ensures in
-    (h.0, rw row (fits-behind (fits-behind h.1 grant.put_one-grant.ensures) holder))
+    let h = c.requires in
+    let a = c.args in
+    let holder = value-puts c.holder_value.ensures c.put_value-holder.ensures in
+    let row = askers-row a.rig.sets a.i c.askers-set.ensures in
+    (h.0, rw row (fits-behind (fits-behind h.1 c.put_one-grant.ensures) holder))
 
 pub returns : goal.returns
 unfolding arbiter_fields at
 returns c =
-    let three = c in
-    let two = three in
-    let grant = two in
-    let a = grant.args in
-    let holder = value-puts two.holder_value.ensures two.put_value-holder.ensures in
-    let row = askers-row a.rig.sets a.i grant.askers-set.ensures in
-    puts-line grant.put_one-grant.ensures (puts-line holder (rw row at three.put_row.ensures))
+    let a = c.args in
+    let holder = value-puts c.holder_value.ensures c.put_value-holder.ensures in
+    let row = askers-row a.rig.sets a.i c.askers-set.ensures in
+    puts-line c.put_one-grant.ensures (puts-line holder (rw row at c.put_row.ensures))

@@ -10,5 +10,4 @@ put_value-requires c = value-fits (rw c.message.ensures at c.message_value.ensur
 pub returns : goal.returns
 unfolding message_field
 returns c =
-    let v = c in
-    value-puts (rw v.message.ensures at v.message_value.ensures) c.put_value.ensures
+    value-puts (rw c.message.ensures at c.message_value.ensures) c.put_value.ensures

@@ -20,9 +20,8 @@ put_state-n-requires c = (sym c.well_shaped.ensures ∙ c.if-not-well_shaped.fal
 
 pub returns-then-n-out : goal.returns-then-n-out
 returns-then-n-out c =
-    let shaped = c in
     rw c.refused-then-n-out.ensures
-    (too_short _ _ _ shaped.if-code-ne0.false (sym shaped.well_shaped.ensures ∙ shaped.if-not-well_shaped.false) c.put_state-n.ensures c.if-n-out.true)
+    (too_short _ _ _ c.if-code-ne0.false (sym c.well_shaped.ensures ∙ c.if-not-well_shaped.false) c.put_state-n.ensures c.if-n-out.true)
 
 pub slice_bounds-page-end : goal.slice_bounds-page-end
 slice_bounds-page-end c = (printed-part c.put_state-n.ensures).0
@@ -35,6 +34,4 @@ put_word-requires c = omega (arith, (printed-part c.put_state-n.ensures).1, c.if
 
 pub returns : goal.returns
 returns c =
-    let room = c in
-    let shaped = room in
-    at_front _ _ _ shaped.if-code-ne0.false (sym shaped.well_shaped.ensures ∙ shaped.if-not-well_shaped.false) room.put_state-n.ensures room.if-n-out.false c.put_word.ensures
+    at_front _ _ _ c.if-code-ne0.false (sym c.well_shaped.ensures ∙ c.if-not-well_shaped.false) c.put_state-n.ensures c.if-n-out.false c.put_word.ensures
