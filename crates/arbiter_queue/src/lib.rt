@@ -33,16 +33,11 @@ fn head_with(queued: &[u64; Rig::SITES], k: u64, h: u64) -> u64
     ensures { result ≡ head_with queued.now k h }
 {
     let seq = queued_at(queued, k);
-    if seq == 0 {
-        return h;
+    if seq != 0 && (h == 0 || comes_before(seq, k, queued_at(queued, h), h)) {
+        k
+    } else {
+        h
     }
-    if h == 0 {
-        return k;
-    }
-    if comes_before(seq, k, queued_at(queued, h), h) {
-        return k;
-    }
-    h
 }
 
 // An inner call: the queued site that comes before all others queued, 0 where the queue is empty.

@@ -36,6 +36,7 @@ fn request_members(d: Desk, seq: u64, out: &mut [Row], count: usize) -> usize
 }
 
 // An inner call: the site asks.
+#[tactic(auto, unfolding(model::specs::Ask::asked))]
 pub fn ask(d: Desk, out: &mut [Row], count: usize) -> Acted
     requires { AskFits d count out.old }
     ensures { CarriesOut (asked d) count out.old out.new result }

@@ -19,6 +19,7 @@ fn fail_counts(d: Desk, number: u64) -> bool
 }
 
 // An inner call: a fail with this number.
+#[tactic(auto, unfolding(model::specs::Site::on_fail))]
 pub fn on_fail(d: Desk, number: u64, out: &mut [Row], count: usize) -> Acted
     requires { (d.size ≤ site_limit) × (count + site_limit ≤ length out.old) }
     ensures { CarriesOut (on_fail d number) count out.old out.new result }

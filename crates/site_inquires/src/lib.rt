@@ -34,6 +34,7 @@ fn yield_or_remember(d: Desk, j: u64, n: u64, out: &mut [Row], count: usize) -> 
 }
 
 // An inner call: an inquire from j, with number n.
+#[tactic(auto, unfolding(model::specs::Site::on_inquire))]
 pub fn on_inquire(d: Desk, j: u64, n: u64, out: &mut [Row], count: usize) -> Acted
     requires { SiteNumber j × (count < length out.old) }
     ensures { CarriesOut (on_inquire d j n) count out.old out.new result }

@@ -11,6 +11,7 @@ use list_rows::Row;
 use rig::Desk;
 
 // What follows once a number is held for j: the site is inside, or yields j, or waits on.
+#[tactic(auto, using(model::proofs::Tables::at_read), unfolding(model::specs::Site::entered_or_yielded))]
 fn enter_or_yield(d: Desk, j: u64, out: &mut [Row], count: usize) -> Acted
     requires { SiteNumber j × (d.size ≤ site_limit) × (count < length out.old) }
     ensures { CarriesOut (entered_or_yielded d j) count out.old out.new result }
@@ -43,6 +44,7 @@ fn takes(d: Desk, j: u64) -> bool
 }
 
 // An inner call: a reply about j, with number n.
+#[tactic(auto, unfolding(model::specs::Site::on_reply, model::specs::Site::taken))]
 pub fn on_reply(d: Desk, j: u64, n: u64, out: &mut [Row], count: usize) -> Acted
     requires { SiteNumber j × (d.size ≤ site_limit) × (count < length out.old) }
     ensures { CarriesOut (on_reply d j n) count out.old out.new result }
