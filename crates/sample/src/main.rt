@@ -9,6 +9,22 @@ use player_printing::{PAGE_LENGTH, step_line};
 use rig::{Answer, Event, Message, Rig};
 use std::io;
 
+const EVENTS: [Event; 13] = [
+    Event::Ask(1),
+    Event::Deliver(1, 1),
+    Event::Deliver(1, 1),
+    Event::Ask(2),
+    Event::Deliver(2, 1),
+    Event::Deliver(1, 1),
+    Event::Leave(1),
+    Event::Deliver(1, 2),
+    Event::Deliver(1, 2),
+    Event::Leave(2),
+    Event::Deliver(2, 1),
+    Event::Deliver(1, 1),
+    Event::Deliver(1, 1),
+];
+
 // Sites 1 and 2. The request set of each is site 1 alone: bit 0. These sets pass; were they refused, nothing would be played.
 fn main(rt: HostRuntime) -> io::Result<()> {
     let mut sets = [0; Rig::SITES];
@@ -35,8 +51,8 @@ fn play(rt: &impl Print, fresh: Rig) -> io::Result<()>
         number: 0,
     }; Rig::MESSAGES];
     let mut count = 0;
-    for i in 0..13 {
-        let r = engine::event(rig, &mut tables, &mut list, count, event_at(i));
+    for (i, event) in EVENTS.iter().enumerate() {
+        let r = engine::event(rig, &mut tables, &mut list, count, *event);
         print_line(rt, i as u64 + 1, r)?;
         rig = r.rig;
         count = r.count;
@@ -44,39 +60,17 @@ fn play(rt: &impl Print, fresh: Rig) -> io::Result<()>
     Ok(())
 }
 
-fn event_at(i: usize) -> Event
-    requires { i < 13 }
-{
-    let events = [
-        Event::Ask(1),
-        Event::Deliver(1, 1),
-        Event::Deliver(1, 1),
-        Event::Ask(2),
-        Event::Deliver(2, 1),
-        Event::Deliver(1, 1),
-        Event::Leave(1),
-        Event::Deliver(1, 2),
-        Event::Deliver(1, 2),
-        Event::Leave(2),
-        Event::Deliver(2, 1),
-        Event::Deliver(1, 1),
-        Event::Deliver(1, 1),
-    ];
-    events[i]
-}
-
 // As `step=1 code=0 inside=0 waiting=1 flying=1`. A line names one site inside, so no two may be: the call in `play` is proved to keep to it.
 fn print_line(rt: &impl Print, step: u64, r: Answer) -> io::Result<()>
     requires { inside_count r.rig ≤ 1 }
 {
     let mut page = [0; PAGE_LENGTH];
-    let rig = r.rig;
     let n = step_line(
         &mut page,
         step,
         r.code,
-        inside(rig),
-        waiting(rig),
+        inside(r.rig),
+        waiting(r.rig),
         r.count as u64,
     );
     rt.write_all(&page[..n])

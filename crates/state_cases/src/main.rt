@@ -5,151 +5,99 @@
 // The file `stdout` was not written by this program: `outside/state_cases` writes it, by the reading of the words in Rust.
 #![tactic(auto)]
 
-ghost use Rattle.std.specs.Prelude.{◌≤◌};
-
-use host_bytes::{PATH, open_named, word};
+use host_bytes::{PATH, open_named, print_word, word};
 use std::io;
 
-// How many bytes are read at once.
+// How many bytes are read at once: few, or as many as there is room for, as the program does.
 const PIECE: usize = 61;
 
-fn main(rt: HostRuntime) -> io::Result<()> {
-    print_saves(&rt)?;
-    print_saves_from(&rt)?;
-    print_plays_from(&rt)?;
-    print_no_saved_texts(&rt)?;
-    print_misshapen(&rt)?;
-    print_wrong_uses(&rt)?;
-    print_long(&rt)?;
-    print_longer_words(&rt)?;
-    print_old_fails(&rt)?;
-    print_nested(&rt)
-}
+const ROOM: usize = 0;
 
-// Each command by the argument that is its first word, and how many words it has, its own name among them; its input is named by the argument behind them.
-// A whole text, saved.
-fn print_saves(rt: &HostRuntime) -> io::Result<()> {
-    print_case(rt, 1, 2)?;
-    print_case(rt, 3, 2)?;
-    print_case(rt, 5, 2)?;
-    print_case(rt, 7, 2)?;
-    print_case(rt, 9, 2)?;
-    print_case(rt, 11, 2)?;
-    print_case(rt, 13, 2)
-}
+// Each command by the argument that is its first word, and the one behind its last word, which names its input.
+// Whole texts, saved.
+const SAVES: [(u8, u8); 7] = [(1, 2), (3, 4), (5, 6), (7, 8), (9, 10), (11, 12), (13, 14)];
 
-// A run that goes on, saved.
-fn print_saves_from(rt: &HostRuntime) -> io::Result<()> {
-    print_case(rt, 15, 3)?;
-    print_case(rt, 18, 3)?;
-    print_case(rt, 21, 3)?;
-    print_case(rt, 24, 3)?;
-    print_case(rt, 27, 3)?;
-    print_case(rt, 30, 3)
-}
+// Runs that go on, saved.
+const SAVES_FROM: [(u8, u8); 6] = [(15, 17), (18, 20), (21, 23), (24, 26), (27, 29), (30, 32)];
 
-// Its lines.
-fn print_plays_from(rt: &HostRuntime) -> io::Result<()> {
-    print_case(rt, 33, 3)?;
-    print_case(rt, 36, 3)?;
-    print_case(rt, 39, 3)?;
-    print_case(rt, 42, 3)?;
-    print_case(rt, 45, 3)?;
-    print_case(rt, 48, 3)
-}
+// Their lines.
+const PLAYS_FROM: [(u8, u8); 6] = [(33, 35), (36, 38), (39, 41), (42, 44), (45, 47), (48, 50)];
 
 // Files that are no saved text.
-fn print_no_saved_texts(rt: &HostRuntime) -> io::Result<()> {
-    print_case(rt, 51, 3)?;
-    print_case(rt, 54, 3)?;
-    print_case(rt, 57, 3)?;
-    print_case(rt, 60, 3)?;
-    print_case(rt, 63, 3)?;
-    print_case(rt, 66, 3)?;
-    print_case(rt, 69, 3)
-}
+const NO_SAVED_TEXTS: [(u8, u8); 7] = [
+    (51, 53),
+    (54, 56),
+    (57, 59),
+    (60, 62),
+    (63, 65),
+    (66, 68),
+    (69, 71),
+];
 
 // A state that becomes misshapen.
-fn print_misshapen(rt: &HostRuntime) -> io::Result<()> {
-    print_case(rt, 72, 3)?;
-    print_case(rt, 75, 3)?;
-    print_case(rt, 78, 3)
-}
+const MISSHAPEN: [(u8, u8); 3] = [(72, 74), (75, 77), (78, 80)];
 
 // A file that is not there, and wrong words.
-fn print_wrong_uses(rt: &HostRuntime) -> io::Result<()> {
-    print_case(rt, 81, 3)?;
-    print_case(rt, 84, 3)?;
-    print_case(rt, 87, 2)?;
-    print_case(rt, 89, 2)?;
-    print_case(rt, 91, 3)?;
-    print_case(rt, 94, 4)
-}
+const WRONG_USES: [(u8, u8); 6] = [(81, 83), (84, 86), (87, 88), (89, 90), (91, 93), (94, 97)];
 
-// The longest saved text, and a byte more; 1,500 events, few bytes at a time and as many as there is room for; a line
-// that stops the run where what is printed leaves no room for another page.
-fn print_long(rt: &HostRuntime) -> io::Result<()> {
-    print_case(rt, 98, 3)?;
-    print_case(rt, 101, 3)?;
-    print_case(rt, 104, 3)?;
-    print_whole(rt, 107, 3)?;
-    print_whole(rt, 110, 3)?;
-    print_whole(rt, 113, 3)?;
-    print_whole(rt, 116, 3)
-}
+// The longest saved text, and a byte more; 1,500 events.
+const LONG: [(u8, u8); 3] = [(98, 100), (101, 103), (104, 106)];
+
+// Events, as many at a time as there is room for; a line that stops the run where what is printed leaves no room for another page.
+const LONG_PIECES: [(u8, u8); 4] = [(107, 109), (110, 112), (113, 115), (116, 118)];
 
 // First words that only begin as one of a command.
-fn print_longer_words(rt: &HostRuntime) -> io::Result<()> {
-    print_case(rt, 119, 3)?;
-    print_case(rt, 122, 3)
-}
+const LONGER_WORDS: [(u8, u8); 2] = [(119, 121), (122, 124)];
 
 // A text that the version before request 2.3 has saved, with a fail numbered 0 to a waiting site: it is written back as it is, and the fail counts. The same
 // with the number of an ask that is over: it does nothing. A number 0 that is written: no saved text.
-fn print_old_fails(rt: &HostRuntime) -> io::Result<()> {
-    print_case(rt, 125, 3)?;
-    print_case(rt, 128, 3)?;
-    print_case(rt, 131, 3)?;
-    print_case(rt, 134, 3)?;
-    print_case(rt, 137, 3)?;
-    print_case(rt, 140, 3)?;
-    print_case(rt, 143, 3)
-}
+const OLD_FAILS: [(u8, u8); 7] = [
+    (125, 127),
+    (128, 130),
+    (131, 133),
+    (134, 136),
+    (137, 139),
+    (140, 142),
+    (143, 145),
+];
 
 // Request 2.6: a text with a set that strictly contains an earlier one, and a saved text with such sets.
-fn print_nested(rt: &HostRuntime) -> io::Result<()> {
-    print_case(rt, 146, 2)?;
-    print_case(rt, 148, 3)?;
-    print_case(rt, 151, 3)
+const NESTED: [(u8, u8); 3] = [(146, 147), (148, 150), (151, 153)];
+
+fn main(rt: HostRuntime) -> io::Result<()> {
+    print_cases(&rt, &SAVES, PIECE)?;
+    print_cases(&rt, &SAVES_FROM, PIECE)?;
+    print_cases(&rt, &PLAYS_FROM, PIECE)?;
+    print_cases(&rt, &NO_SAVED_TEXTS, PIECE)?;
+    print_cases(&rt, &MISSHAPEN, PIECE)?;
+    print_cases(&rt, &WRONG_USES, PIECE)?;
+    print_cases(&rt, &LONG, PIECE)?;
+    print_cases(&rt, &LONG_PIECES, ROOM)?;
+    print_cases(&rt, &LONGER_WORDS, PIECE)?;
+    print_cases(&rt, &OLD_FAILS, PIECE)?;
+    print_cases(&rt, &NESTED, PIECE)
 }
 
-// A case whose input is read few bytes at a time.
-fn print_case(rt: &HostRuntime, at: u8, count: usize) -> io::Result<()>
-    requires { (1 ≤ count) × (count ≤ 4) }
-{
-    print_read(rt, at, count, PIECE)
-}
-
-// A case whose input is read as the program reads it, in pieces as long as there is room for.
-fn print_whole(rt: &HostRuntime, at: u8, count: usize) -> io::Result<()>
-    requires { (1 ≤ count) × (count ≤ 4) }
-{
-    print_read(rt, at, count, 0)
+fn print_cases(rt: &HostRuntime, cases: &[(u8, u8)], room: usize) -> io::Result<()> {
+    for (at, input) in cases {
+        print_case(rt, *at, *input, room)?;
+    }
+    Ok(())
 }
 
 // A line as `> state save SAVED < EVENTS`, and what the call prints.
-fn print_read(rt: &HostRuntime, at: u8, count: usize, room: usize) -> io::Result<()>
-    requires { (1 ≤ count) × (count ≤ 4) }
-{
-    let input = at as usize + count - 1;
+fn print_case(rt: &HostRuntime, at: u8, input: u8, room: usize) -> io::Result<()> {
     rt.write_all(b"> state")?;
-    print_words(rt, at as usize, count)?;
+    for i in at..input {
+        print_word(rt, i as usize, &mut rt.stdout())?;
+    }
     rt.write_all(b" <")?;
-    print_word(rt, input)?;
+    print_word(rt, input as usize, &mut rt.stdout())?;
     rt.write_all(b"\n")?;
     let mut path = [0u8; PATH];
-    let length = word(rt, input, &mut path);
+    let length = word(rt, input as usize, &mut path);
     let mut source = open_named(rt, &path[..length])?;
+    let count = input.saturating_sub(at) as usize + 1;
     state_console::run(
         rt,
         at,
@@ -159,25 +107,4 @@ fn print_read(rt: &HostRuntime, at: u8, count: usize, room: usize) -> io::Result
         &mut rt.stdout(),
         &mut rt.stderr(),
     )
-}
-
-// The words of a command behind its own name, one to three.
-fn print_words(rt: &HostRuntime, at: usize, count: usize) -> io::Result<()>
-    requires { at ≤ 255 }
-{
-    print_word(rt, at)?;
-    if count > 2 {
-        print_word(rt, at + 1)?;
-    }
-    if count > 3 {
-        print_word(rt, at + 2)?;
-    }
-    Ok(())
-}
-
-fn print_word(rt: &HostRuntime, i: usize) -> io::Result<()> {
-    let mut bytes = [0u8; PATH];
-    let length = word(rt, i, &mut bytes);
-    rt.write_all(b" ")?;
-    rt.write_all(&bytes[..length])
 }

@@ -2,11 +2,14 @@
 // has, and where bytes written go, no contract can say; the stored output of `state_cases` shows it.
 #![tactic(auto)]
 
+ghost use Rattle.std.specs.Prelude.{IfSome};
 ghost use Rattle.host_bytes.specs.Counts.{IsPrefixLen};
+ghost use Rattle.player_state.specs.State.{PlayingFits};
+ghost use Rattle.player_state.specs.declared.Playing.{Playing};
 
 use host_bytes::{PATH, open_named, put_failure, read_full, word};
 use player_console::play_on;
-use player_state::begin;
+use player_state::{Playing, begin};
 use save_text::LONGEST;
 use state_input::save_on;
 use state_resuming::resume;
@@ -35,11 +38,12 @@ pub fn run<R: Read, W: Write, E: Write>(
 ) -> io::Result<()> {
     let mut bytes = [0u8; WORD];
     let length = word(rt, at as usize, &mut bytes);
+    let file = at as usize + 1;
     match command_of(count, &bytes[..length]) {
-        Command::Save => save_on(begin(), source, room, to),
-        Command::SaveFrom => go_on(rt, at as usize + 1, source, room, true, to, errors),
-        Command::PlayFrom => go_on(rt, at as usize + 1, source, room, false, to, errors),
-        Command::Wrong => print_usage(errors),
+        Some(Command::Save) => save_on(begin(), source, room, to),
+        Some(Command::SaveFrom) => go_on(rt, file, source, room, to, errors, save_on),
+        Some(Command::PlayFrom) => go_on(rt, file, source, room, to, errors, play_on),
+        None => print_usage(errors),
     }
 }
 
@@ -50,66 +54,48 @@ fn print_usage<E: Write>(errors: &mut E) -> io::Result<()> {
     )
 }
 
-// Goes on from the file that argument `at` names: saves at the end, or prints the lines.
-fn go_on<R: Read, W: Write, E: Write>(
+// Goes on by `step` from the file that argument `at` names.
+fn go_on<R: Read, W: Write, E: Write, F>(
     rt: &(impl Env + Files),
     at: usize,
     source: &mut R,
     room: usize,
-    saves: bool,
     to: &mut W,
     errors: &mut E,
-) -> io::Result<()> {
+    step: F,
+) -> io::Result<()>
+where
+    F: FnOnce(Playing, &mut R, usize, &mut W) -> io::Result<()>,
+    requires { (p : Playing) (s : _) (n : _) (w : _) → PlayingFits p → F.pre step p s n w }
+{
     let mut text = [0u8; FILE];
-    let file = read_file(rt, at, &mut text, errors);
-    if !file.found {
+    let Some(length) = read_file(rt, at, &mut text, errors) else {
         return Ok(());
-    }
-    let resumed = resume(&text[..file.length]);
-    let playing = resumed.playing;
+    };
+    let resumed = resume(&text[..length]);
     if resumed.code != 0 {
         return print_stop(resumed.code, to);
     }
-    if saves {
-        save_on(playing, source, room, to)
-    } else {
-        play_on(playing, source, room, to)
-    }
+    step(resumed.playing, source, room, to)
 }
 
-// Whether a file could be opened, and how many of its bytes were read.
-#[derive(Clone, Copy)]
-struct FileRead {
-    found: bool,
-    length: usize,
-}
-
-// Reads the file that argument `at` names, as much of it as there is room for; one that cannot be read is taken as empty. Where it cannot be opened, says so
-// to standard error.
+// Reads the file that argument `at` names, as much of it as there is room for; answers how many bytes. One that cannot be read is taken as empty. Where it
+// cannot be opened, says so to standard error.
 fn read_file<E: Write>(
     rt: &(impl Env + Files),
     at: usize,
     text: &mut [u8],
     errors: &mut E,
-) -> FileRead
-    ensures { IsPrefixLen result.length text.new }
+) -> Option<usize>
+    ensures { IfSome result (λ n. IsPrefixLen n text.new) }
 {
     let mut path = [0u8; PATH];
     let length = word(rt, at, &mut path);
     match open_named(rt, &path[..length]) {
-        Ok(mut file) => {
-            let got = read_full(&mut file, text).unwrap_or(0);
-            FileRead {
-                found: true,
-                length: got,
-            }
-        }
+        Ok(mut file) => Some(read_full(&mut file, text).unwrap_or(0)),
         Err(error) => {
             put_failure(errors, &path[..length], error).unwrap_or(());
-            FileRead {
-                found: false,
-                length: 0,
-            }
+            None
         }
     }
 }

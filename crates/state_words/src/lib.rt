@@ -4,50 +4,45 @@
 ghost use Rattle.std.specs.Prelude.{◌≡◌};
 ghost use Rattle.state_words.specs.Words.{alone, with_file, command_of};
 
-use player_bytes::same_bytes;
-
-// What is asked: to play a whole text and save, to go on from a saved text and save, to go on from one and print the lines; or nothing, where the words
-// are wrong.
+// What is asked: to play a whole text and save, to go on from a saved text and save, or to go on from one and print the lines.
 #[derive(Clone, Copy)]
 pub enum Command {
     Save,
     SaveFrom,
     PlayFrom,
-    Wrong,
 }
 
-// What a command of `count` words asks, its own name among them, whose first word behind its name is given.
-pub fn command_of(count: usize, word: &[u8]) -> Command
+// What a command of `count` words asks, its own name among them, whose first word behind its name is given: nothing, where the words are wrong.
+#[tactic(auto, using(std::proofs::lemmas::Bool::Decides::nat_tests), unfolding(crate::specs::Words::command_of))]
+pub fn command_of(count: usize, word: &[u8]) -> Option<Command>
     ensures { result ≡ command_of count word.now }
 {
-    if count == 2 {
-        return alone(word);
+    match count {
+        2 => alone(word),
+        3 => with_file(word),
+        _ => None,
     }
-    if count == 3 {
-        return with_file(word);
-    }
-    Command::Wrong
 }
 
 // A word by itself.
-fn alone(word: &[u8]) -> Command
+#[tactic(auto, using(std::proofs::lemmas::Bool::Decides::nat_tests, crate::proofs::ByBytes::same_reads), unfolding(crate::specs::Words::alone))]
+fn alone(word: &[u8]) -> Option<Command>
     ensures { result ≡ alone word.now }
 {
-    if same_bytes(word, b"save") {
-        return Command::Save;
+    match word {
+        b"save" => Some(Command::Save),
+        _ => None,
     }
-    Command::Wrong
 }
 
 // A word with the name of a file.
-fn with_file(word: &[u8]) -> Command
+#[tactic(auto, using(std::proofs::lemmas::Bool::Decides::nat_tests, crate::proofs::ByBytes::same_reads), unfolding(crate::specs::Words::with_file))]
+fn with_file(word: &[u8]) -> Option<Command>
     ensures { result ≡ with_file word.now }
 {
-    if same_bytes(word, b"save") {
-        return Command::SaveFrom;
+    match word {
+        b"save" => Some(Command::SaveFrom),
+        b"play" => Some(Command::PlayFrom),
+        _ => None,
     }
-    if same_bytes(word, b"play") {
-        return Command::PlayFrom;
-    }
-    Command::Wrong
 }

@@ -1,0 +1,2 @@
+-- Words by their bytes.
+pub mod ByBytes
