@@ -89,18 +89,18 @@ fn print_refusals(rt: &impl Print) -> io::Result<()> {
 
 fn print_family(rt: &impl Print, family: Family) -> io::Result<()> {
     let mut sets = [0u64; Rig::SITES];
-    let made = families::generate(family, &mut sets);
-    if made.code == 0 {
-        print_sets(rt, family, made.size, &sets)
-    } else {
-        print_code(rt, family, Rig::SITES as u64, made.code)
+    match families::generate(family, &mut sets) {
+        Ok(size) => print_sets(rt, family, size, &sets),
+        Err(refusal) => print_code(rt, family, Rig::SITES as u64, refusal.number()),
     }
 }
 
 fn print_short(rt: &impl Print, family: Family) -> io::Result<()> {
     let mut sets = [0u64; 30];
-    let made = families::generate(family, &mut sets);
-    print_code(rt, family, 30, made.code)
+    if let Err(refusal) = families::generate(family, &mut sets) {
+        print_code(rt, family, 30, refusal.number())?;
+    }
+    Ok(())
 }
 
 fn print_sets(

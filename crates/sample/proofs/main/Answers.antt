@@ -1,6 +1,5 @@
--- `main`: where setup's code is 0, its rig starts a run.
-use native.Mathlib.Omega.{arith}
+-- `main`: a rig that setup answers starts a run.
 use Rattle.sample.proofs.main.Goals as goal
 
 pub play-requires : goal.play-requires
-play-requires c = (2, _, c.setup-made.ensures.1 (omega arith))
+play-requires c = (2, _, rw c.in-Ok.is at c.setup.ensures.starts)
