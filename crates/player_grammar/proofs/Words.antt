@@ -6,8 +6,8 @@ use mathlib.Core.List.{List, [], ◌∷◌}
 use mathlib.Core.Path.{◌≡◌, refl, sym, ap, ◌∙◌}
 use lib.Dec.{eqb}
 use lib.Pointwise.{pointwise}
-use lib.ListN.{length, take, drop, length-drop}
-use lib.Seq.{take_all}
+use lib.ListN.{length, take, drop}
+use Rattle.std.proofs.lemmas.Slice.{between_to_end}
 use Rattle.player_grammar.specs.Grammar.{starts}
 
 starts-pointwise : (word line : List ℕ) → pointwise eqb (take (length word) line) word ≡ starts word line
@@ -21,4 +21,4 @@ starts-word word line h = sym (starts-pointwise word line) ∙ h
 
 -- `&line[i..]`
 pub behind : (line : List ℕ) (i : ℕ) → take (length line - i) (drop i line) ≡ drop i line
-behind line i = let l = length-drop i line in take_all (length line - i) (drop i line) (omega arith)
+behind line i = between_to_end line i (length line) (omega arith)

@@ -1,5 +1,5 @@
 -- `set_lines`: the lines of the sets so far.
-use mathlib.Core.Path.{◌≡◌, refl}
+use mathlib.Core.Path.{refl}
 use borrow.Author.Rules.{rules}
 use native.Mathlib.Numerals.{add-one}
 use native.Mathlib.Omega.{arith}
@@ -24,9 +24,3 @@ loop-set-preserved c =
     let sets = c.args.sets.now in
     let e = get_or-take c.args.n sets l.set-index 0 (omega (arith, length-take-le c.args.n sets c.requires.1)) in
     (search rules, rw (add-one l.set-index) (wrote-set sets l.set-index l.invariant.1 (rw e at c.set_line-next.ensures)))
-
-pub returns : goal.returns
-returns c =
-    let l = c.loop-set in
-    let e : l.set-index ≡ c.args.n = omega (arith, length-take-le c.args.n c.args.sets.now c.requires.1) in
-    rw e at l.invariant.1

@@ -17,9 +17,6 @@ returns-then-not-is_digit c =
     let a = c.args in
     sym (l.invariant.1 ∙ other_at a.word.now l.n l.b-index (omega arith) (failed c.is_digit.ensures c.if-not-is_digit.true-raw))
 
-pub with_digit-n-requires : goal.with_digit-n-requires
-with_digit-n-requires c = passed c.is_digit.ensures c.if-not-is_digit.false-raw
-
 pub loop-b-preserved : goal.loop-b-preserved
 loop-b-preserved c =
     let l = c.loop-b in

@@ -8,9 +8,6 @@ use Rattle.player_bytes.proofs.Digits.{decimal-room, one-digit, longer, some-dig
 use Rattle.player_bytes.proofs.Stores.{last-first}
 use Rattle.player_bytes.proofs.put_decimal.Goals as goal
 
-pub overflow_add-end : goal.overflow_add-end
-overflow_add-end c = omega (arith, decimal-length c.args.n)
-
 pub overflow_sub-i : goal.overflow_sub-i
 unfolding decimal
 overflow_sub-i c = omega (arith, some-digit 19 c.args.n, c.places.ensures)

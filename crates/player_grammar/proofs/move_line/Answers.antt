@@ -3,9 +3,7 @@ use Prim.Native.Nat.{◌+◌}
 use mathlib.Core.Path.{◌≡◌, sym, ◌∙◌}
 use native.Mathlib.Nat.{zero-add}
 use native.Mathlib.Numerals.{add-one}
-use native.Mathlib.Omega.{arith}
 use lib.ListN.{drop}
-use lib.Seq.{length-take-le}
 use Rattle.player_numbers.specs.Numbers.{number}
 use Rattle.player_grammar.specs.Grammar.{before, numbers, move_line}
 use Rattle.player_grammar.proofs.Words.{behind}
@@ -27,9 +25,6 @@ returns-then-end-list c =
     let end = c.find-end.result in
     let e : end ≡ comma bs = found-comma bs 0 end c.find-end.ensures.value ∙ zero-add _ in
     rw (numbers-last bs (rw e at c.if-end-list.true)) (sym (move-single (number bs)))
-
-pub slice_bounds-read_number-end : goal.slice_bounds-read_number-end
-slice_bounds-read_number-end c = sym (length-take-le _ _ (omega arith))
 
 pub returns-in_err-a : goal.returns-in_err-a
 returns-in_err-a c = c.from_residual.ensures ∙ sym (comma-found (goal.at.returns-in_err-a c).After-read_number ∙ rw c.in_err-a.was (move-malformed _))

@@ -32,9 +32,6 @@ overflow_add-low c =
     let l = number-limit _ _ (sym c.read_number.ensures ∙ c.in_ok-n.was) in
     omega arith
 
-pub loop-at-smaller : goal.loop-at-smaller
-loop-at-smaller c = omega (arith, c.find-end.ensures.value)
-
 pub loop-at-preserved : goal.loop-at-preserved
 loop-at-preserved c = (omega arith, part-read (goal.at.loop-at-preserved c).After-read_number ∙ rw (c.in_ok-n.was, c.site_bit-set.ensures) (set-rises _ _ _ _ c.if-n-low.false))
 

@@ -5,14 +5,6 @@ use Rattle.player_text.proofs.Heads.{nothing}
 use Rattle.player_text.proofs.Stages.{line-size, line_set, line-event, line-over}
 use Rattle.player_lines.proofs.line.Goals as goal
 
-pub on_set-requires : goal.on_set-requires
-on_set-requires c =
-    let fits = rw c.in-Sets.is at c.requires.fits in
-    (fits.1, fits.2)
-
-pub on_event-requires : goal.on_event-requires
-on_event-requires c = rw c.in-Events.is at c.requires.fits
-
 pub returns-in-Size : goal.returns-in-Size
 returns-in-Size c =
     let a = c.args in

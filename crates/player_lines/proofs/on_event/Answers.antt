@@ -9,6 +9,3 @@ unfolding on_event
 returns-in_default c =
     let a = c.args in
     stops a.p a.tables.now a.list.now c.stop.result 11 c.one_more.result c.stop.ensures (on_event (text a.p a.tables.now a.list.now) (event_in a.m)) (rw (← c.event_in.ensures, c.in_default.is, c.one_more.ensures))
-
-pub returns : goal.returns
-returns c = rw (← c.event_in.ensures, c.in-Some.is) c.play_event.ensures

@@ -1,5 +1,5 @@
 -- `read_number`: what is left to read behind the digits so far.
-use mathlib.Core.Path.{refl, sym, ◌∙◌}
+use mathlib.Core.Path.{sym, ◌∙◌}
 use borrow.Author.Tests.{not-true, not-false}
 use native.Mathlib.Omega.{arith}
 use Rattle.player_numbers.proofs.Numbers.{number-begun, leading-zero, digit_at, other_at, too_large, number-ended}
@@ -8,9 +8,6 @@ use Rattle.player_numbers.proofs.read_number.Goals as goal
 pub returns-then-not-no_leading_zero : goal.returns-then-not-no_leading_zero
 returns-then-not-no_leading_zero c = sym (leading-zero _ (sym c.no_leading_zero.ensures ∙ not-true _ c.if-not-no_leading_zero.true-raw))
 
-pub loop-b-init : goal.loop-b-init
-loop-b-init c = (omega arith, refl)
-
 pub returns-then-not-is_digit : goal.returns-then-not-is_digit
 returns-then-not-is_digit c =
     let l = c.loop-b in
@@ -18,9 +15,6 @@ returns-then-not-is_digit c =
     let z = sym c.no_leading_zero.ensures ∙ not-false _ c.if-not-no_leading_zero.false-raw in
     let d = sym c.is_digit.ensures ∙ not-true _ c.if-not-is_digit.true-raw in
     sym (number-begun a.part.now z ∙ l.invariant.1 ∙ other_at a.part.now l.n l.b-index (omega arith) d)
-
-pub with_digit-n-requires : goal.with_digit-n-requires
-with_digit-n-requires c = (omega arith, sym c.is_digit.ensures ∙ not-false _ c.if-not-is_digit.false-raw)
 
 pub returns-then-n-gt999 : goal.returns-then-n-gt999
 returns-then-n-gt999 c =
