@@ -29,6 +29,7 @@ fn former_told(d: Desk, k: u64, former: u64) -> bool
 }
 
 // An inner call: a fail to the head before k was queued, if there was one other than k and it comes before the holder.
+#[tactic(auto, unfolding(model::specs::Arbiter::fail_former))]
 pub fn fail_former(d: Desk, out: &mut [Row], count: usize, k: u64, former: u64) -> usize
     requires { Room d 0 1 count out.old × SiteNumber k × (former ≤ site_limit) }
     ensures { Appends (fail_former d k former) count out.old out.new result }

@@ -15,6 +15,7 @@ use list_rows::{Row, append};
 use rig::{Desk, Message};
 
 // If the queue isn't empty, a transfer that names the head goes to the holder.
+#[tactic(auto, unfolding(model::specs::Arbiter::next_heir, model::specs::Arbiter::head_of))]
 fn next_heir(d: Desk, out: &mut [Row], count: usize) -> usize
     requires { Room d 0 1 count out.old }
     ensures { Appends (next_heir d) count out.old out.new result }
@@ -45,6 +46,7 @@ pub fn grant(d: Desk, out: &mut [Row], count: usize, k: u64, n: u64) -> Acted
 }
 
 // An inner call: grants the head, if any.
+#[tactic(auto, unfolding(model::specs::Arbiter::granted_head, model::specs::Arbiter::head_of))]
 pub fn grant_head(d: Desk, out: &mut [Row], count: usize) -> Acted
     requires { Room d 1 2 count out.old }
     ensures { CarriesOut (granted_head d) count out.old out.new result }

@@ -15,6 +15,7 @@ use list_rows::{Row, append};
 use rig::Desk;
 
 // If the queue isn't empty, a transfer that names the head goes to the holder, then an inquire if the head comes before it.
+#[tactic(auto, unfolding(model::specs::Arbiter::head_named, model::specs::Arbiter::inquire_if_before, model::specs::Arbiter::head_of))]
 fn head_named(d: Desk, out: &mut [Row], count: usize) -> usize
     requires { Room d 0 2 count out.old }
     ensures { Appends (head_named d) count out.old out.new result }
@@ -31,6 +32,7 @@ fn head_named(d: Desk, out: &mut [Row], count: usize) -> usize
 }
 
 // An inner call: queued site x, the heir of the holder, which has released, holds the permission now.
+#[tactic(auto, unfolding(model::specs::Arbiter::heir_takes_over))]
 pub fn heir_takes_over(d: Desk, out: &mut [Row], count: usize, x: u64) -> Acted
     requires { Room d 1 2 count out.old × SiteNumber x }
     ensures { CarriesOut (heir_takes_over d x) count out.old out.new result }

@@ -17,6 +17,7 @@ use list_rows::Row;
 use rig::Desk;
 
 // The release of the holder; x is the heir that it names, 0 none.
+#[tactic(auto, unfolding(model::specs::Arbiter::holder_releases))]
 fn holder_releases(d: Desk, out: &mut [Row], count: usize, x: u64) -> Acted
     requires { Room d 1 2 count out.old × (x ≤ site_limit) }
     ensures { CarriesOut (holder_releases d x) count out.old out.new result }
@@ -31,6 +32,7 @@ fn holder_releases(d: Desk, out: &mut [Row], count: usize, x: u64) -> Acted
 }
 
 // The release of queued site k, which got the permission from the holder.
+#[tactic(auto, unfolding(model::specs::Arbiter::early_release))]
 fn early_release(d: Desk, out: &mut [Row], count: usize, k: u64) -> Acted
     requires { Room d 2 2 count out.old × SiteNumber k }
     ensures { CarriesOut (early_release d k) count out.old out.new result }
@@ -40,6 +42,7 @@ fn early_release(d: Desk, out: &mut [Row], count: usize, k: u64) -> Acted
 }
 
 // An inner call: a release from k with number n; x is the heir that it names, 0 none.
+#[tactic(auto, unfolding(model::specs::Arbiter::on_release))]
 pub fn on_release(d: Desk, out: &mut [Row], count: usize, k: u64, x: u64, n: u64) -> Acted
     requires { Room d 2 2 count out.old × SiteNumber k × (x ≤ site_limit) }
     ensures { CarriesOut (on_release d k x n) count out.old out.new result }

@@ -15,6 +15,7 @@ use list_rows::Row;
 use rig::Desk;
 
 // An inner call: a yield from k with number n.
+#[tactic(auto, unfolding(model::specs::Arbiter::on_yield))]
 pub fn on_yield(d: Desk, out: &mut [Row], count: usize, k: u64, n: u64) -> Acted
     requires { Room d 1 2 count out.old × SiteNumber k }
     ensures { CarriesOut (on_yield d k n) count out.old out.new result }

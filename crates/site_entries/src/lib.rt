@@ -23,6 +23,7 @@ pub fn cleared(d: Desk, site: Site) -> Desk
 }
 
 // The failed mark is set.
+#[tactic(auto, unfolding(model::specs::Site::failed_set))]
 pub fn failed_set(d: Desk) -> Desk
     ensures { result ≡ failed_set d }
 {
@@ -37,6 +38,7 @@ pub fn failed_set(d: Desk) -> Desk
 }
 
 // The site is inside; its remembered inquires are cleared.
+#[tactic(auto, unfolding(model::specs::Site::entered))]
 pub fn enter(d: Desk) -> Desk
     ensures { result ≡ entered d }
 {

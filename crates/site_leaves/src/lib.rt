@@ -55,6 +55,7 @@ fn hand_on_members(d: Desk, out: &mut [Row], count: usize) -> usize
 }
 
 // An inner call: the site leaves.
+#[tactic(auto, unfolding(model::specs::Leave::left))]
 pub fn leave(d: Desk, out: &mut [Row], count: usize) -> Acted
     requires { LeaveFits d count out.old }
     ensures { CarriesOut (left d) count out.old out.new result }

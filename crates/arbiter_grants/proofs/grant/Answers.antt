@@ -1,13 +1,7 @@
 -- `grant`: a reply, then what `next_heir` sends.
-use native.Mathlib.Omega.{arith}
 use Rattle.model.specs.Arbiter.{granted}
 use Rattle.event_effects.proofs.Effects.{sent-one, sent-more, carries-sent}
 use Rattle.arbiter_grants.proofs.grant.Goals as goal
-
-pub next_heir-named-requires : goal.next_heir-named-requires
-next_heir-named-requires c =
-    let u = rw c.requeued.ensures at c.held_by-u.ensures in
-    rw u (record { size = omega arith; grants = omega arith; room = omega arith })
 
 pub returns : goal.returns
 unfolding granted
