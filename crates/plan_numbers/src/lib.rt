@@ -8,7 +8,8 @@ ghost use Rattle.plan_numbers.specs.Given.{largest, parameter, nothing_given, go
 use player_numbers::{is_digit, no_leading_zero};
 use rig::Rig;
 
-// The words so far (what may not change: `plan_text::plan` takes it with its flag `wrong`): whether one is no number, how many are numbers, and the first of these, one for each site of the largest rig.
+// The words so far: whether one is no number, how many are numbers, and the first of these, one for each site of the largest rig.
+// What may not change: `plan_text::plan` takes it, with its flag `wrong`.
 #[derive(Clone, Copy)]
 pub struct Given {
     pub wrong: bool,
