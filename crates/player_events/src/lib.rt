@@ -14,7 +14,7 @@ use event_sites::{actor, counted_on, place_of};
 use list_rows::Rows;
 use player_bytes::put_word;
 use player_counts::{inside, waiting};
-use player_next::{Next, next_line};
+use player_next::next_line;
 use player_printing::{PAGE_LENGTH, step_line};
 use player_text::{Player, Stage, one_more, stop};
 use rig::{Message, Mode, Rig, Site, Tables};
@@ -111,52 +111,47 @@ pub fn play_events(
     let mut read = from;
     let mut to = at;
     while PAGE_LENGTH <= out.len() - to {
-        match next_line(text, read) {
-            Next::Nothing => break,
-            Next::Other(end) => return stop_here(
-                player_at(p, line, step, rig, count),
-                out,
-                to,
-                end + 1,
-            ),
-            Next::Event(e, end) => {
-                let i = place_of(rig.size, actor(e));
-                let site = rig.sites[i];
-                let arbiter = rig.arbiters[i];
-                let done = step_at(
-                    rig.size,
-                    rig.accepted,
-                    rig.sets[i],
-                    site,
-                    arbiter,
-                    tables,
-                    list,
-                    count,
-                    &mut sent,
-                    e,
-                );
-                rig.sites[i] = done.site;
-                rig.arbiters[i] = done.arbiter;
-                rig.accepted = counted_on(rig.accepted, done.code);
-                count = done.count;
-                if !same_kind(site, done.site) {
-                    now_inside = inside(rig);
-                    now_waiting = waiting(rig);
-                }
-                step = one_more(step);
-                line = one_more(line);
-                to = print_step(
-                    out,
-                    to,
-                    step,
-                    done.code,
-                    now_inside,
-                    now_waiting,
-                    count as u64,
-                );
-                read = end + 1;
-            },
+        let Some(next) = next_line(text, read) else {
+            break;
+        };
+        let Some(e) = next.event else {
+            return stop_here(player_at(p, line, step, rig, count), out, to, next.end + 1);
+        };
+        let i = place_of(rig.size, actor(e));
+        let site = rig.sites[i];
+        let arbiter = rig.arbiters[i];
+        let done = step_at(
+            rig.size,
+            rig.accepted,
+            rig.sets[i],
+            site,
+            arbiter,
+            tables,
+            list,
+            count,
+            &mut sent,
+            e,
+        );
+        rig.sites[i] = done.site;
+        rig.arbiters[i] = done.arbiter;
+        rig.accepted = counted_on(rig.accepted, done.code);
+        count = done.count;
+        if !same_kind(site, done.site) {
+            now_inside = inside(rig);
+            now_waiting = waiting(rig);
         }
+        step = one_more(step);
+        line = one_more(line);
+        to = print_step(
+            out,
+            to,
+            step,
+            done.code,
+            now_inside,
+            now_waiting,
+            count as u64,
+        );
+        read = next.end + 1;
     }
     Stretch {
         player: player_at(p, line, step, rig, count),

@@ -8,19 +8,21 @@ use Rattle.model.specs.Event.{actor}
 use Rattle.model.specs.Run.{waiting_count}
 use Rattle.model.specs.Printed.{inside_up_to}
 use Rattle.event_sites.specs.Places.{place_of}
-use Rattle.player_next.specs.declared.Next.TheVariants.{Event as EventTo}
-use Rattle.player_next.specs.Lines.{Finds}
+use Rattle.std.specs.Prelude.{Some}
+use Rattle.player_grammar.specs.Grammar.{meaning_of}
+use Rattle.player_text.specs.Player.{event_in}
+use Rattle.player_next.specs.Lines.{between, LineTo}
 use Rattle.player_events.proofs.Counts.{inside-kept, waiting_kept}
 use Rattle.player_events.proofs.Reading.{next_fits, less-left}
 use Rattle.player_events.proofs.Going.{begins, turn-ready, turn-size, turn-accepted, turn-goes, turn-stops, turn-full, turn-ends}
 use Rattle.player_events.proofs.play_events.Goals as goal
-use Rattle.player_events.proofs.play_events.Goals.{After-place_of-i, Joined-not-same_kind, then-not-same_kind, else-not-same_kind, else-loop-out-test, then-loop-out-test+in-Nothing}
+use Rattle.player_events.proofs.play_events.Goals.{After-place_of-i, Joined-not-same_kind, then-not-same_kind, else-not-same_kind, else-loop-out-test, then-loop-out-test+in_default}
 
 -- the line that is found, and the index of its event's site
-found : (c : After-place_of-i) → Finds c.args.text.now c.loop-out.read (EventTo c.in-Event.e c.in-Event.end)
-found c = rw c.in-Event.is at c.next_line.ensures
+found : (c : After-place_of-i) → LineTo c.in-Some.next.end c.loop-out.read c.args.text.now × (event_in (meaning_of (between c.loop-out.read c.in-Some.next.end c.args.text.now)) ≡ Some c.in-Some-event.e)
+found c = let f = rw c.in-Some.is at c.next_line.ensures in (f.0, f.1 ∙ c.in-Some-event.is)
 
-place : (c : After-place_of-i) → c.place_of-i.result ≡ place_of c.loop-out.rig.size (actor c.in-Event.e)
+place : (c : After-place_of-i) → c.place_of-i.result ≡ place_of c.loop-out.rig.size (actor c.in-Some-event.e)
 place c = rw c.actor.ensures at c.place_of-i.ensures.0
 
 -- the rig that the event left, and its counts
@@ -46,15 +48,15 @@ recounted c =
 pub loop-out-init : goal.loop-out-init
 loop-out-init c = let p = c.requires in begins p.0 p.1 p.2 p.3 p.4 c.inside-now_inside.ensures c.waiting-now_waiting.ensures
 
-pub overflow_add-end : goal.overflow_add-end
-overflow_add-end c =
-    let f = rw c.in-Other.is at c.next_line.ensures in
+pub overflow_add-next : goal.overflow_add-next
+overflow_add-next c =
+    let f = rw c.in-Some.is at c.next_line.ensures in
     record { fits = next_fits f.0 c.well_formed.1.1.1.0.0 }
 
-pub returns-in-Other : goal.returns-in-Other
-returns-in-Other c =
-    let f = rw c.in-Other.is at c.next_line.ensures in
-    turn-stops c.loop-out.invariant f.0 f.1 c.stop_here.result (rw c.player_at.ensures at c.stop_here.ensures)
+pub returns-in_default-event : goal.returns-in_default-event
+returns-in_default-event c =
+    let f = rw c.in-Some.is at c.next_line.ensures in
+    turn-stops c.loop-out.invariant f.0 (f.1 ∙ c.in_default-event.is) c.stop_here.result (rw c.player_at.ensures at c.stop_here.ensures)
 
 pub place_of-i-requires : goal.place_of-i-requires
 place_of-i-requires c = turn-size c.loop-out.invariant
@@ -62,7 +64,7 @@ place_of-i-requires c = turn-size c.loop-out.invariant
 pub step_at-done-requires : goal.step_at-done-requires
 step_at-done-requires c =
     let at = (goal.at.step_at-done-requires c).After-place_of-i in
-    rw (place at) (turn-ready at.loop-out.invariant (actor at.in-Event.e))
+    rw (place at) (turn-ready at.loop-out.invariant (actor at.in-Some-event.e))
 
 pub counted_on-requires : goal.counted_on-requires
 counted_on-requires c = turn-accepted c.loop-out.invariant
@@ -89,7 +91,7 @@ loop-out-preserved c =
     let counted = c.counted_on in
     let k = recounted (goal.at.loop-out-preserved c).Joined-not-same_kind in
     let w = c.print_step-to.ensures in
-    turn-goes at.loop-out.invariant at.in-Event.e f.0 f.1 done.result at.place_of-i.result counted.result (place at) done.ensures.0 counted.ensures c.one_more-line.ensures c.one_more-step.ensures k.0 k.1 w.0 w.1
+    turn-goes at.loop-out.invariant at.in-Some-event.e f.0 f.1 done.result at.place_of-i.result counted.result (place at) done.ensures.0 counted.ensures c.one_more-line.ensures c.one_more-step.ensures k.0 k.1 w.0 w.1
 
 pub returns : goal.returns
 returns c =
@@ -97,5 +99,5 @@ returns c =
     turn-ends go c.player_at-2.result c.player_at-2.ensures (
     elim c.loop-out-test.branch [
       | else-loop-out-test w ↦ inr (inr (turn-full go w.loop-out-test.false))
-      | then-loop-out-test+in-Nothing w ↦ inl (rw w.in-Nothing.is at w.next_line.ensures)
+      | then-loop-out-test+in_default w ↦ inl (rw w.in_default.is at w.next_line.ensures)
     ])

@@ -1,9 +1,9 @@
 -- `next_line`: up to the first byte 10, where there is one.
-use mathlib.Core.Path.{sym, ap}
+use mathlib.Core.Path.{sym, ap, ◌∙◌}
 use native.Mathlib.Omega.{arith}
 use lib.ListN.{length-drop}
 use Rattle.player_text.specs.Player.{event_in}
-use Rattle.player_next.proofs.Found.{found, finds}
+use Rattle.player_next.proofs.Found.{found}
 use Rattle.player_next.proofs.next_line.Goals as goal
 
 pub returns-then-end-text : goal.returns-then-end-text
@@ -15,6 +15,5 @@ returns-then-end-text c =
 pub returns : goal.returns
 returns c =
     let a = c.args in
-    let end = c.find-end.result in
-    let f = found a.text.now a.from end c.find-end.ensures.value in
-    rw c.line_to.ensures (finds a.text.now a.from end (record { within = c.if-end-text.false; first = f }) _ (ap event_in (sym c.meaning.ensures)))
+    let f = found a.text.now a.from c.find-end.result c.find-end.ensures.value in
+    (record { within = c.if-end-text.false; first = f }, ap event_in (sym c.meaning-m.ensures) ∙ sym c.event_in.ensures)
