@@ -1,3 +1,2 @@
--- Words by their bytes, and what commands ask.
-pub mod ByBytes
+-- What commands ask.
 pub mod Examples

@@ -15,7 +15,7 @@ pub enum Asked {
 }
 
 // What a family's name asks with the numbers behind it: nothing, where the words are wrong.
-#[tactic(auto, using(std::proofs::lemmas::Bool::Decides::nat_tests, crate::proofs::ByBytes::same_reads), unfolding(crate::specs::Words::asked_by, model::specs::Tables::at))]
+#[tactic(auto, using(std::proofs::lemmas::Bool::Decides::nat_tests, player_bytes::proofs::ByBytes::same_reads), unfolding(crate::specs::Words::asked_by, model::specs::Tables::at))]
 pub fn asked_by(name: &[u8], given: Given) -> Option<Asked>
     ensures { result ≡ asked_by name.now given }
 {
@@ -31,7 +31,7 @@ pub fn asked_by(name: &[u8], given: Given) -> Option<Asked>
 }
 
 // What a name asks with one number.
-#[tactic(auto, using(std::proofs::lemmas::Bool::Decides::nat_tests, crate::proofs::ByBytes::same_reads), unfolding(crate::specs::Words::of_one))]
+#[tactic(auto, using(std::proofs::lemmas::Bool::Decides::nat_tests, player_bytes::proofs::ByBytes::same_reads), unfolding(crate::specs::Words::of_one))]
 fn of_one(name: &[u8], n: u64) -> Option<Asked>
     ensures { result ≡ of_one name.now n }
 {
@@ -44,7 +44,7 @@ fn of_one(name: &[u8], n: u64) -> Option<Asked>
 }
 
 // What a name asks with three numbers: rows, bays and levels.
-#[tactic(auto, using(std::proofs::lemmas::Bool::Decides::nat_tests, crate::proofs::ByBytes::same_reads), unfolding(crate::specs::Words::of_three))]
+#[tactic(auto, using(std::proofs::lemmas::Bool::Decides::nat_tests, player_bytes::proofs::ByBytes::same_reads), unfolding(crate::specs::Words::of_three))]
 fn of_three(name: &[u8], rows: u64, bays: u64, levels: u64) -> Option<Asked>
     ensures { result ≡ of_three name.now rows bays levels }
 {

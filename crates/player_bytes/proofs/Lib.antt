@@ -2,3 +2,4 @@
 pub mod Digits
 pub mod Stores
 pub mod Same
+pub mod ByBytes

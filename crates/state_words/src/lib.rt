@@ -25,7 +25,7 @@ pub fn command_of(count: usize, word: &[u8]) -> Option<Command>
 }
 
 // A word by itself.
-#[tactic(auto, using(std::proofs::lemmas::Bool::Decides::nat_tests, crate::proofs::ByBytes::same_reads), unfolding(crate::specs::Words::alone))]
+#[tactic(auto, using(std::proofs::lemmas::Bool::Decides::nat_tests, player_bytes::proofs::ByBytes::same_reads), unfolding(crate::specs::Words::alone))]
 fn alone(word: &[u8]) -> Option<Command>
     ensures { result ≡ alone word.now }
 {
@@ -36,7 +36,7 @@ fn alone(word: &[u8]) -> Option<Command>
 }
 
 // A word with the name of a file.
-#[tactic(auto, using(std::proofs::lemmas::Bool::Decides::nat_tests, crate::proofs::ByBytes::same_reads), unfolding(crate::specs::Words::with_file))]
+#[tactic(auto, using(std::proofs::lemmas::Bool::Decides::nat_tests, player_bytes::proofs::ByBytes::same_reads), unfolding(crate::specs::Words::with_file))]
 fn with_file(word: &[u8]) -> Option<Command>
     ensures { result ≡ with_file word.now }
 {

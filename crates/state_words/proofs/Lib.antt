@@ -1,2 +1,0 @@
--- Words by their bytes.
-pub mod ByBytes
