@@ -1,7 +1,8 @@
-// A caller of the engine's public call, proved from its contract alone: a site asks.
+// Callers of the engine's public call and of the lent list, each proved from their contracts alone: a site asks; a request is put into a list.
 #![tactic(auto)]
 
-ghost use Rattle.std.specs.Prelude.{◌≡◌};
+ghost use Rattle.std.specs.Prelude.{◌≡◌, ◌+◌, ◌<◌, length, set};
+ghost use Rattle.rig.specs.Messages.{request};
 ghost use Rattle.model.specs.Run.{OfRun, Sound};
 ghost use Rattle.engine.specs.Lent.{before, after};
 ghost use Rattle.client_event.specs.Asked.{ask_answered, Holds};
@@ -18,4 +19,12 @@ pub fn ask(rig: Rig, tables: &mut Tables, list: &mut [Message], count: usize, s:
         × (OfRun (before rig tables list count) → Sound (after result tables list).next) }
 {
     engine::event(rig, tables, list, count, Event::Ask(s))
+}
+
+// An inner call: a request put behind the first `count` messages, by the thin function of the lent list.
+pub fn with_request(list: &mut [Message], count: usize, from: u64, to: u64, seq: u64) -> usize
+    requires { count < length list.old }
+    ensures { (result ≡ count + 1) × (list.new ≡ set list.old count (request from to seq)) }
+{
+    list_lent::append(list, count, Message::request(from, to, seq))
 }
