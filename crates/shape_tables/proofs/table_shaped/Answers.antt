@@ -1,5 +1,5 @@
 -- `table_shaped`: each row so far is shaped.
-use Prim.Native.Nat.{suc}
+use Prim.Native.Nat.{suc, ◌-◌}
 use mathlib.Core.Path.{sym}
 use native.Mathlib.Omega.{arith}
 use native.Mathlib.Nat.{le_antisymm}
@@ -27,8 +27,8 @@ pub loop-i-preserved : goal.loop-i-preserved
 unfolding cell at
 loop-i-preserved c =
     let l = c.loop-i in
-    all_more _ l.i l.invariant (passed (rw add-one at c.row_shaped.ensures) c.if-not-row_shaped.false-raw)
+    (omega arith, all_more _ l.i l.invariant.1 (passed (rw add-one at c.row_shaped.ensures) c.if-not-row_shaped.false-raw))
 
 pub returns : goal.returns
 unfolding everywhere
-returns c = sym (rw (le_antisymm c.loop-i.auto.i-end c.loop-i-test.false) at c.loop-i.invariant)
+returns c = sym (rw (le_antisymm c.loop-i.invariant.0 c.loop-i-test.false) at c.loop-i.invariant.1)

@@ -1,3 +1,4 @@
+use Prim.Native.Nat.{◌≤◌, ◌-◌}
 use mathlib.Core.Path.{◌≡◌}
 use mathlib.Core.Bool.{true}
 use Rattle.rig.specs.Limits.{site_limit}
@@ -7,4 +8,7 @@ use Rattle.shape_cells.specs.Cells.{cell_shaped}
 use Rattle.shape_tables.proofs.table_shaped.Given as goal
 
 abbrev pub invariant-loop-i : goal.invariant-loop-i
-invariant-loop-i l = all (λ a. all (λ b. cell_shaped l.which l.sets a b (cell l.table a b)) site_limit) l.i ≡ true
+invariant-loop-i l = (l.i ≤ site_limit) × (all (λ a. all (λ b. cell_shaped l.which l.sets a b (cell l.table a b)) site_limit) l.i ≡ true)
+
+abbrev pub decreases-loop-i : goal.decreases-loop-i
+decreases-loop-i l = site_limit - l.i
