@@ -1,7 +1,8 @@
 // Callers of the functions whose contracts are the claims: what they promise follows from those contracts alone. Each answers 0.
 #![tactic(auto)]
 
-ghost use Rattle.std.specs.Prelude.{◌≡◌};
+ghost use Rattle.std.specs.Prelude.{◌≡◌, ◌≤◌, ◌<◌};
+ghost use Rattle.rig_members.specs.Walk.{word_bits, within, members_in};
 ghost use Rattle.client_claims.specs.Claims.{OneHolder, CodesOfRuns, NumbersOfRuns, ReplyTaken, DeliveriesServe, FailsGiven, LaterAskKept, CutOnce};
 
 // Demand 3: who holds an arbiter's permission.
@@ -39,4 +40,12 @@ pub fn cut_once() -> u8
     ensures { (result ≡ 0) × CutOnce }
 {
     player_parts::cuts_agree()
+}
+
+// An inner call: how many turns a walk of the members among the sites 1 to n has, at most one for each member.
+pub fn turns(n: u64, set: u64) -> usize
+    requires { n < word_bits }
+    ensures { result ≤ members_in (within n set) }
+{
+    rig_members::each_member(n, set).count()
 }

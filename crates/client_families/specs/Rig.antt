@@ -34,3 +34,7 @@ nine_sets =
     of_sites (11 ∷ 15 ∷ 16 ∷ 18 ∷ 19 ∷ 21 ∷ 22 ∷ 23 ∷ 26 ∷ [])
     ∷ of_sites (3 ∷ 7 ∷ 11 ∷ 15 ∷ 19 ∷ 24 ∷ 29 ∷ 34 ∷ 38 ∷ [])
     ∷ []
+
+-- 1 for N, 2 and 3 for the sets, 4 to 10 for an event, 11 for a line, 12 for a parameter, 13 for a length, 14 and 15 for a saved text, 16 for votes, 17 for nested sets
+abbrev pub refusal_numbers : List ℕ
+refusal_numbers = 1 ∷ 2 ∷ 3 ∷ 4 ∷ 5 ∷ 6 ∷ 7 ∷ 8 ∷ 9 ∷ 10 ∷ 11 ∷ 12 ∷ 13 ∷ 14 ∷ 15 ∷ 16 ∷ 17 ∷ []

@@ -5,7 +5,7 @@ ghost use Rattle.std.specs.Prelude.{◌≡◌, ◌⊎◌};
 ghost use Rattle.rig.specs.Limits.{site_limit};
 ghost use Rattle.refusals.specs.Numbers.{code_in};
 ghost use Rattle.families.specs.ByVotes.{votes_code};
-ghost use Rattle.client_families.specs.Rig.{IsFamilyRig, IsVotesRig, nine_sets};
+ghost use Rattle.client_families.specs.Rig.{IsFamilyRig, IsVotesRig, nine_sets, refusal_numbers};
 
 use families::{billiard_set, generate, generate_by_votes};
 use family_rules::Family;
@@ -47,4 +47,29 @@ pub fn nine_sets() -> [u64; 2]
     ensures { result ≡ nine_sets }
 {
     [billiard_set(9, 11), billiard_set(9, 34)]
+}
+
+// The numbers of all reasons to turn an input down, in the order of document 01 and of its requests.
+pub fn numbers() -> [u64; 17]
+    ensures { result ≡ refusal_numbers }
+{
+    [
+        Refusal::SiteCount.number(),
+        Refusal::FaultySet.number(),
+        Refusal::SetsApart.number(),
+        Refusal::UnknownSite.number(),
+        Refusal::NotResting.number(),
+        Refusal::NotInside.number(),
+        Refusal::NothingSent.number(),
+        Refusal::ListFull.number(),
+        Refusal::LimitReached.number(),
+        Refusal::Misshapen.number(),
+        Refusal::Malformed.number(),
+        Refusal::Unlisted.number(),
+        Refusal::WrongLength.number(),
+        Refusal::NotAState.number(),
+        Refusal::ShortBuffer.number(),
+        Refusal::FaultyVotes.number(),
+        Refusal::NestedSets.number(),
+    ]
 }
