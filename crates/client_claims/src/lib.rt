@@ -42,10 +42,10 @@ pub fn cut_once() -> u8
     player_parts::cuts_agree()
 }
 
-// An inner call: how many turns a walk of the members among the sites 1 to n has, at most one for each member.
+// An inner call: how many turns a walk of the members among the sites 1 to n has, one for each member.
 pub fn turns(n: u64, set: u64) -> usize
     requires { n < word_bits }
-    ensures { result ≤ members_in (within n set) }
+    ensures { result ≡ members_in (within n set) }
 {
     rig_members::each_member(n, set).count()
 }

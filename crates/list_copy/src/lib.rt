@@ -5,6 +5,7 @@ ghost use Rattle.std.specs.Prelude.{◌≡◌, ◌⊎◌, map, ◌<◌, ◌≤�
 ghost use Rattle.std.proofs.Math.Seq.{paste};
 ghost use Rattle.list_rows.specs.Rows.{row_of, message_of};
 
+use list_lent::append;
 use list_rows::{Row, message, row};
 use rig::Message;
 
@@ -18,13 +19,13 @@ pub fn to_rows(list: &[Message], n: usize, rows: &mut [Row])
     }
 }
 
-// Each message becomes the one of its row.
+// Each message becomes the one of its row, put behind those before it.
 fn from_rows(list: &mut [Message], rows: &[Row])
     requires { length list.old ≡ length rows.now }
     ensures { list.new ≡ map message_of rows.now }
 {
-    for (i, m) in list.iter_mut().enumerate() {
-        *m = message(rows[i]);
+    for (i, r) in rows.iter().enumerate() {
+        append(list, i, message(*r));
     }
 }
 
