@@ -33,9 +33,9 @@ pub fn read_room(room: usize, len: usize) -> usize
 
 // An inner call: plays the text that `source` gives, from a state of the player on, read in pieces of at most `room` bytes. `put_part` gets what each part
 // of a piece prints, and whether the run has ended, and `put_end` the player at the end of the input. The turns are no more than a number that no run uses
-// up, since a proved loop has to end. The parts of a piece are played in the same function, and `first` is lent: the state is large, and a call would copy it.
+// up, since a proved loop has to end. The parts of a piece are played in the same function: the state is large, and a call would copy it.
 pub fn play_pieces<R: Read, W: Write, P, E>(
-    first: &Playing,
+    first: Playing,
     source: &mut R,
     room: usize,
     to: &mut W,
@@ -45,7 +45,7 @@ pub fn play_pieces<R: Read, W: Write, P, E>(
 where
     P: FnMut(&[u8], bool, &mut W) -> io::Result<()>,
     E: FnOnce(&Playing, &mut W) -> io::Result<()>,
-    requires playing_fits { PlayingFits first.now }
+    requires playing_fits { PlayingFits first }
     requires put_part_callable { P.IsAlwaysCallable put_part }
     requires put_end_callable { E.IsAlwaysCallable put_end }
 {
@@ -53,7 +53,7 @@ where
     let mut output = [0u8; OUTPUT];
     let most = read_room(room, INPUT);
     let mut r = Played {
-        playing: *first,
+        playing: first,
         taken: 0,
         written: 0,
     };
@@ -86,7 +86,7 @@ pub fn play_on<R: Read, W: Write>(
     requires { PlayingFits first }
 {
     play_pieces(
-        &first,
+        first,
         source,
         room,
         to,

@@ -23,7 +23,7 @@ pub fn save_on<R: Read, W: Write>(
     requires { PlayingFits first }
 {
     play_pieces(
-        &first,
+        first,
         source,
         room,
         to,
